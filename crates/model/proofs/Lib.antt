@@ -1,0 +1,14 @@
+pub mod Lists
+pub mod Tasks
+pub mod Settles
+pub mod Acts
+pub mod Keeps
+pub mod Hold
+pub mod Room
+pub mod Most
+pub mod Worlds
+pub mod Runs
+pub mod Rights
+pub mod Kin
+pub mod Within
+pub mod Cases

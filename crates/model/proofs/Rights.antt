@@ -1,0 +1,39 @@
+-- What is right by two relations is right, and its runs are.
+-- Assumes nothing.
+use mathlib.Core.Path.{_≡_, refl}
+use mathlib.Core.Logic.{_⊎_, inl, inr}
+use mathlib.Core.Bool.{Bool, true, false, cond}
+use mathlib.Core.List.{List, [], _∷_, map}
+use Rattle.model.specs.State.{Machine, Task, State, Told, isReady, phased, blank}
+use Rattle.model.specs.Calls.{down}
+use Rattle.model.specs.Memory.{Memory, Code, Meant, Right, fitsDone, Halfway, comesTo}
+use Rattle.model.specs.Right.{RightBy, RunsRight}
+use Rattle.model.proofs.Runs.{right-is-right}
+
+pub right-by : {C R : Type 0} {j : Meant C R} {e : Code C R} {Tells : Memory → j .State → Type 0} {Awake : e .Mind → Memory → j .State → Type 0} → RightBy j e Tells Awake → Right j e
+right-by {Tells = Tells} {Awake = Awake} r = record { Tells = Tells; Awake = Awake; atFirst = r .atFirst; wakes = r .wakes; cutWaking = r .cutWaking; answers = r .answers; cutAnswering = r .cutAnswering; goesDark = r .goesDark }
+
+pub runs-right : {C R : Type 0} (j : Meant C R) (e : Code C R) (Tells : Memory → j .State → Type 0) (Awake : e .Mind → Memory → j .State → Type 0) → RightBy j e Tells Awake → ((s : j .State) → j .dark (j .dark s) ≡ j .dark s) → (j .dark (j .start) ≡ j .start) → RunsRight j e
+runs-right {C} {R} j e Tells Awake r = right-is-right C R j e (right-by r)
+
+-- to go dark twice is to go dark once, which the runs want of the herd's meaning
+
+map-twice : {A : Type 0} (f : A → A) → ((x : A) → f (f x) ≡ f x) → (xs : List A) → map f (map f xs) ≡ map f xs
+map-twice f h [] = refl
+map-twice f h (x ∷ xs) = let a = h x in let b = map-twice f h xs in cc
+
+told-twice : (t : Task) → let f : Task → Task = λ u. cond (isReady (u .phase)) (phased Told u) u in f (f t) ≡ f t
+told-twice t = pick (isReady (t .phase)) refl
+  where
+    f : Task → Task
+    f u = cond (isReady (u .phase)) (phased Told u) u
+
+    pick : (b : Bool) → isReady (t .phase) ≡ b → f (cond b (phased Told t) t) ≡ cond b (phased Told t) t
+    pick true e = refl
+    pick false e = rw e
+
+pub dark-twice : (s : State) → down (down s) ≡ down s
+dark-twice s = let a = map-twice _ told-twice (s .tasks) in let b = map-twice (λ (m : Machine). record { num = m .num; cpu = m .cpu; mem = m .mem; tags = m .tags; open' = m .open'; life = m .life; number = m .number; heard = 0 }) (λ m. refl) (s .machines) in λ i. record { now = 0; nextId = s .nextId; machines = b i; jobs = s .jobs; tasks = a i }
+
+pub dark-first : down blank ≡ blank
+dark-first = refl
