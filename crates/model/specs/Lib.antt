@@ -6,3 +6,5 @@ pub mod World
 pub mod Memory
 pub mod Right
 pub mod Promise
+pub mod Wire
+pub mod Lines

@@ -1,0 +1,5 @@
+pub mod Numbers
+pub mod Holding
+pub mod Refusing
+pub mod Saying
+pub mod Standing

@@ -1,0 +1,4 @@
+pub mod Held
+pub mod Refusal
+pub mod Code
+pub mod Shown

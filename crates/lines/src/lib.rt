@@ -1,0 +1,5 @@
+// Lines: calls and answers as bytes, and the function that answers a line.
+pub mod answer;
+pub mod line;
+pub mod number;
+pub mod theorems;
