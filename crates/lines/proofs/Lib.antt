@@ -3,3 +3,4 @@ pub mod Holding
 pub mod Refusing
 pub mod Saying
 pub mod Standing
+pub mod Reading

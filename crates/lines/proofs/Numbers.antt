@@ -88,3 +88,15 @@ put-all out n (suc i) h = absurd (omega arith)
 pub bytesOf-four : (n : ℕ) → bytesOf 4 n ≡ n / 16777216 % 256 ∷ n / 65536 % 256 ∷ n / 256 % 256 ∷ n % 256 ∷ []
 unfolding bytesOf
 bytesOf-four n = let a : n / 256 / 256 ≡ n / 65536 = div-div-eq-div-mul n 256 256 in let b : n / 65536 / 256 ≡ n / 16777216 = div-div-eq-div-mul n 65536 256 in rw (a, b)
+
+-- and eight
+pub bytesOf-eight : (n : ℕ) →
+  bytesOf 8 n ≡ n / 72057594037927936 % 256 ∷ n / 281474976710656 % 256 ∷ n / 1099511627776 % 256 ∷ n / 4294967296 % 256 ∷ n / 16777216 % 256 ∷ n / 65536 % 256 ∷ n / 256 % 256 ∷ n % 256 ∷ []
+unfolding bytesOf
+bytesOf-eight n =
+    let b : n / 256 / 256 ≡ n / 65536 = div-div-eq-div-mul n 256 256 in
+    let c : n / 65536 / 256 ≡ n / 16777216 = div-div-eq-div-mul n 65536 256 in
+    let d : n / 16777216 / 256 ≡ n / 4294967296 = div-div-eq-div-mul n 16777216 256 in
+    let e : n / 4294967296 / 256 ≡ n / 1099511627776 = div-div-eq-div-mul n 4294967296 256 in
+    let f : n / 1099511627776 / 256 ≡ n / 281474976710656 = div-div-eq-div-mul n 1099511627776 256 in
+    let g : n / 281474976710656 / 256 ≡ n / 72057594037927936 = div-div-eq-div-mul n 281474976710656 256 in rw (b, c, d, e, f, g)

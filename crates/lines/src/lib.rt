@@ -2,4 +2,7 @@
 pub mod answer;
 pub mod line;
 pub mod number;
+pub mod reader;
+pub mod stage;
+pub mod step;
 pub mod theorems;

@@ -40,6 +40,16 @@ impl Line {
         self.count = self.count.saturating_add(1);
     }
 
+    // This line, and no other.
+    pub fn set(&mut self, line: &[u8])
+        ensures { λ _. ⌜ Holds (now (self .exit) .bytes) (now (self .exit) .count) (now (line .entry)) ⌝ }
+    {
+        self.clear();
+        for byte in line {
+            self.push(*byte);
+        }
+    }
+
     // The tag that the answer bears again; 0 where the frame is too short to have one.
     pub fn tag(&self) -> u32
         ensures { λ r. ⌜ ((line : List ℕ) → Holds (now (self .entry) .bytes) (now (self .entry) .count) line → r ≡ tagIn line) ⌝ }
