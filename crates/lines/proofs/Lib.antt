@@ -4,3 +4,4 @@ pub mod Refusing
 pub mod Saying
 pub mod Standing
 pub mod Reading
+pub mod Hexing

@@ -75,6 +75,10 @@ lineOn bs ts = lineBy bs (behind (105 ∷ 110 ∷ 32 ∷ []) ts) (behind (116 �
 abbrev pub lineOf : Text → Bytes
 lineOf ts = lineOn [] ts
 
+-- an answer's line: "out ", its bytes, and the line's end
+abbrev pub outText : Bytes → Text
+outText bs = (111 ∷ 117 ∷ 116 ∷ 32 ∷ hexText bs) ++ (10 ∷ [])
+
 -- THE LAW ABOVE IT: reading what was written gives it back
 abbrev pub HexBack : Type 0
 HexBack = (bs : Bytes) → Under 256 bs → hexOn [] first (hexText bs) ≡ meant bs
