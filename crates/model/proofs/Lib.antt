@@ -10,5 +10,4 @@ pub mod Worlds
 pub mod Runs
 pub mod Rights
 pub mod Kin
-pub mod Within
 pub mod Cases

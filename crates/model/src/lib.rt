@@ -1,1 +1,11 @@
-// The model.
+// The model: what the herd is meant to do, and what is promised of it.
+//
+// The definitions stand in specs/. Each function here has a theorem about them for its contract,
+// said in plain words above it; the function itself does nothing.
+//
+// state: of one call, one pass, one state
+// world: of all together, herd, agents and lines, at every moment of every run
+// table: worked cases, by computation
+pub mod state;
+pub mod world;
+pub mod table;
