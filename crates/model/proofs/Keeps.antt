@@ -14,7 +14,7 @@ use Rattle.model.specs.State.{Name, Machine, Spec, Job, Phase, Waiting, Told, 
 use Rattle.model.specs.Lists.{some, every, keep, find, change, none, same}
 use Rattle.model.specs.Settle.{here, settle}
 use Rattle.model.specs.Calls.{Seen, Call, SetJob, EndJob, AddMachine, Close, Reopen, Forget, Report, Tick, Show, Out, heardAll, heardFrom, opened, unsure, later, timed, does, down}
-use Rattle.model.proofs.Lists.{to-true, from-true, clash, bool, In, in-from, in-to, in-end, find-none, in-keep, keep-in, keep-no, Pass, done, gone, goes, pass-same, pass-from, pass-keep, pass-change, pass-map, pass-weaken, Once}
+use Rattle.model.proofs.Lists.{to-true, from-true, clash, bool, In, in-from, in-to, in-end, in-left, find-none, in-keep, keep-in, keep-no, Pass, done, gone, goes, pass-same, pass-from, pass-keep, pass-change, pass-map, pass-weaken, Once}
 use Rattle.model.proofs.Tasks.{Never, told-not-waiting}
 use Rattle.model.proofs.Settles.{Tidy, tidy-settle, unplaced-alike, Fine}
 use Rattle.model.proofs.Room.{weigh}
@@ -160,11 +160,6 @@ pub sound-settle : (s : State) → Sound s → Sound (settle s)
 sound-settle s f =
     let p = hold-settle s (f .fine) (f .told) (f .room) in let e = sym (unplaced-alike s .1) in
     record { fine = fine-settle s (f .fine); told = subst (λ (ms : List Machine). Toldʰ ms (settle s .tasks)) e (p .0); room = subst (λ (ms : List Machine). Roomʰ ms (settle s .tasks)) e (p .1) }
-
-in-left : {A : Type 0} (xs : List A) (y x : A) → In x xs → In x (xs ++ (y ∷ []))
-in-left [] y x i = absurd i
-in-left (z ∷ zs) y x (inl e) = inl e
-in-left (z ∷ zs) y x (inr i) = inr (in-left zs y x i)
 
 weigh-nothing : (g : Task → ℕ) (k : ℕ) (ts : List Task) → ((t : Task) → In t ts → onMachine k t ≡ false) → weigh g (keep (onMachine k) ts) ≤ 0
 unfolding keep weigh

@@ -25,34 +25,41 @@ use Rattle.model.proofs.Worlds.{inv-reach}
 -- TASKS THAT GO ON
 
 abbrev pub Same : Task → Task → Type 0
-Same x y = (y .id ≡ x .id) × (y .spec ≡ x .spec) × (y .job ≡ x .job)
+Same x y = (y .id ≡ x .id) × (y .spec ≡ x .spec) × (y .job ≡ x .job) × (y .version ≡ x .version)
 
 abbrev pub Any : Task → Type 0
 Any x = Unit {0}
 
 pub same-eq : (x y : Task) → y ≡ x → Same x y
-same-eq x y e = (ap (λ (t : Task). t .id) e, ap (λ (t : Task). t .spec) e, ap (λ (t : Task). t .job) e)
+same-eq x y e = (ap (λ (t : Task). t .id) e, ap (λ (t : Task). t .spec) e, ap (λ (t : Task). t .job) e, ap (λ (t : Task). t .version) e)
 
 orphan-same : (js : List Job) (x y : Task) → (y ≡ x) ⊎ ((jobless js x ≡ true) × Ends x y) → Same x y
 orphan-same js x y (inl e) = same-eq x y e
-orphan-same js x y (inr h) = let e = h .1 .1 in (ap (λ (t : Task). t .id) e, ap (λ (t : Task). t .spec) e, ap (λ (t : Task). t .job) e)
+orphan-same js x y (inr h) = let e = h .1 .1 in (ap (λ (t : Task). t .id) e, ap (λ (t : Task). t .spec) e, ap (λ (t : Task). t .job) e, ap (λ (t : Task). t .version) e)
 
 ends-same : (t x y : Task) → EndsOne t x y → Same x y
 ends-same t x y (inl e) = same-eq x y e
-ends-same t x y (inr h) = let e = h .1 .1 in (ap (λ (t : Task). t .id) e, ap (λ (t : Task). t .spec) e, ap (λ (t : Task). t .job) e)
+ends-same t x y (inr h) = let e = h .1 .1 in (ap (λ (t : Task). t .id) e, ap (λ (t : Task). t .spec) e, ap (λ (t : Task). t .job) e, ap (λ (t : Task). t .version) e)
 
 put-same : (x y : Task) → Put x y → Same x y
 put-same x y (inl e) = same-eq x y e
-put-same x y (inr h) = let e = h .3 in (ap (λ (t : Task). t .id) e, ap (λ (t : Task). t .spec) e, ap (λ (t : Task). t .job) e)
+put-same x y (inr h) = let e = h .3 in (ap (λ (t : Task). t .id) e, ap (λ (t : Task). t .spec) e, ap (λ (t : Task). t .job) e, ap (λ (t : Task). t .version) e)
 
 heard-same : (k l : ℕ) (x y : Task) → HeardAs k l x y → Same x y
 heard-same k l x y (inl h) = same-eq x y (h .1)
-heard-same k l x y (inr h) = let e = h .4 in (ap (λ (t : Task). t .id) e, ap (λ (t : Task). t .spec) e, ap (λ (t : Task). t .job) e)
+heard-same k l x y (inr h) = let e = h .4 in (ap (λ (t : Task). t .id) e, ap (λ (t : Task). t .spec) e, ap (λ (t : Task). t .job) e, ap (λ (t : Task). t .version) e)
 
 pub ended-kin : (j : Job) (s : State) → Tidy s → (xs : List Task) → MayEnd s j xs → Pass Any Same (s .tasks) (ended xs (s .tasks))
 unfolding ended
 ended-kin j s h [] m = pass-same Any Same (s .tasks) (λ x i. same-eq x x refl)
 ended-kin j s h (t ∷ ts) m = pass-weaken (λ x d. tt) (ends-same t) (ended-pass 0 (s .tasks) (h .0) t (m .0) ts)
+
+pub orphans-kin : (js : List Job) (ts : List Task) → Pass Any Same ts (orphansEnd js ts)
+orphans-kin js ts = pass-weaken (λ x d. tt) (orphan-same js) (orphans-pass js ts)
+
+-- what placing does
+pub settle-kin : (s : State) → Tidy s → Pass Any Same (unplaced s .tasks) (settle s .tasks)
+settle-kin s h = pass-weaken (λ x d. tt) put-same (settle-pass s h)
 
 pub heard-kin : (k l : ℕ) (xs : List Seen) (ts : List Task) → Pass Any Same ts (heardAll k l xs ts)
 heard-kin k l xs ts = pass-weaken (λ x d. tt) (heard-same k l) (heard-pass k l xs ts)
@@ -62,10 +69,10 @@ keep-kin f ts = pass-keep Any Same f ts (λ x i e. tt) (λ x i e. same-eq x x re
 
 pub timed-kin : (now : ℕ) (ms : List Machine) (ts : List Task) → Pass Any Same ts (map (unsure now ms) ts)
 unfolding unsure
-timed-kin now ms ts = pass-map Any Same (unsure now ms) ts (λ t i. cond-both _ (phased Told t) t (Same t) (λ _. (refl, refl, refl)) (λ _. (refl, refl, refl)))
+timed-kin now ms ts = pass-map Any Same (unsure now ms) ts (λ t i. cond-both _ (phased Told t) t (Same t) (λ _. (refl, refl, refl, refl)) (λ _. (refl, refl, refl, refl)))
 
 pub down-kin : (s : State) → Pass Any Same (s .tasks) (down s .tasks)
-down-kin s = pass-map Any Same _ (s .tasks) (λ t i. cond-both (isReady (t .phase)) (phased Told t) t (Same t) (λ _. (refl, refl, refl)) (λ _. (refl, refl, refl)))
+down-kin s = pass-map Any Same _ (s .tasks) (λ t i. cond-both (isReady (t .phase)) (phased Told t) t (Same t) (λ _. (refl, refl, refl, refl)) (λ _. (refl, refl, refl, refl)))
 
 -- what a pass over tasks that go on leaves as it was, settling leaves so, if new tasks do
 pub settle-keeps : (Q : State → Type 0) → ((u : State) (ts : List Task) → Pass Any Same (u .tasks) ts → Q u → Q (withTasks ts u)) → (s : State) → ((j : Job) → In j (s .jobs) → (u : State) → Tidy u → mayGrow j u ≡ true → Q u → Q (more j u)) → Tidy s → Q s → Q (settle s)
@@ -124,23 +131,36 @@ must-from Q W h (Report k l n xs) s q p = λ m ms e g. h _ (p m ms e g)
 must-from Q W h (Tick t) s q p = h _ p
 must-from Q W h (Show n) s q p = q
 
+-- both before the pass
+pub pre-both : (Q W : State → Type 0) (c : Call) (s : State) → Pre Q c s → Pre W c s → Pre (λ (u : State). Q u × W u) c s
+pre-both Q W (SetJob n a c l m) s p q = (λ e. (p .0 e, q .0 e), λ j js e. (p .1 j js e, q .1 j js e))
+pre-both Q W (EndJob n) s p q = (p, q)
+pre-both Q W (AddMachine k c m tags) s p q = λ e. (p e, q e)
+pre-both Q W (Close k) s p q = (p, q)
+pre-both Q W (Reopen k) s p q = (p, q)
+pre-both Q W (Forget k) s p q = (p, q)
+pre-both Q W (Report k l n xs) s p q = λ m ms e g. (p m ms e g, q m ms e g)
+pre-both Q W (Tick t) s p q = (p, q)
+pre-both Q W (Show n) s p q = tt
+
 -- IN EVERY WORLD
 
--- what calls and darkness keep of the herd's state is so in every world
+-- what calls and the dark keep of the herd's state, a step keeps
+pub step-herd : (Q : State → Type 0) → ((c : Call) (s : State) → Sound s → Q s → Q (does c s .state)) → ((s : State) → Sound s → Q s → Q (down s)) → {w v : World} → Step w v → Sound (w .herd) → Q (w .herd) → Q (v .herd)
+step-herd Q d g (Step.says w c nr nf) h q = d c (w .herd) h q
+step-herd Q d g (Step.forgets w k) h q = d (Forget k) (w .herd) h q
+step-herd Q d g (Step.forgetsOff w k n o x) h q = d (Forget k) (w .herd) h q
+step-herd Q d g (Step.falls w) h q = g (w .herd) h q
+step-herd Q d g (Step.comesUp w i) h q = q
+step-herd Q d g (Step.reports w i l) h q = q
+step-herd Q d g (Step.hears w i l n xs k os m e) h q = d (Report i l n xs) (w .herd) h q
+step-herd Q d g (Step.hearsNot w i l n xs m e) h q = d (Report i l n xs) (w .herd) h q
+step-herd Q d g (Step.obeyed w i os m) h q = q
+step-herd Q d g (Step.starts w i o m n) h q = q
+step-herd Q d g (Step.becomes w i before behind x c e) h q = q
+step-herd Q d g (Step.dies w i before behind x e) h q = q
+
+-- and so it is in every world that is reached
 pub reach-herd : (Q : State → Type 0) → Q blank → ((c : Call) (s : State) → Sound s → Q s → Q (does c s .state)) → ((s : State) → Sound s → Q s → Q (down s)) → {w : World} → Reach w → Q (w .herd)
 reach-herd Q b d g Reach.begin = b
-reach-herd Q b d g (Reach.then r s) = step s (inv-reach r .sound) (reach-herd Q b d g r)
-  where
-    step : {w v : World} → Step w v → Sound (w .herd) → Q (w .herd) → Q (v .herd)
-    step (Step.says w c nr nf) h q = d c (w .herd) h q
-    step (Step.forgets w k) h q = d (Forget k) (w .herd) h q
-    step (Step.forgetsOff w k n o x) h q = d (Forget k) (w .herd) h q
-    step (Step.falls w) h q = g (w .herd) h q
-    step (Step.comesUp w i) h q = q
-    step (Step.reports w i l) h q = q
-    step (Step.hears w i l n xs k os m e) h q = d (Report i l n xs) (w .herd) h q
-    step (Step.hearsNot w i l n xs m e) h q = d (Report i l n xs) (w .herd) h q
-    step (Step.obeyed w i os m) h q = q
-    step (Step.starts w i o m n) h q = q
-    step (Step.becomes w i before behind x c e) h q = q
-    step (Step.dies w i before behind x e) h q = q
+reach-herd Q b d g (Reach.then r s) = step-herd Q d g s (inv-reach r .sound) (reach-herd Q b d g r)

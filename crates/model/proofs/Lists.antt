@@ -53,6 +53,16 @@ in-end a b [] (inr h) = absurd h
 in-end a b (x ∷ xs) (inl e) = inl (inl e)
 in-end a b (x ∷ xs) (inr h) = elim (in-end a b xs h) [ inl i ↦ inl (inr i) | inr e ↦ inr e ]
 
+pub in-left : {A : Type 0} (xs : List A) (y x : A) → In x xs → In x (xs ++ (y ∷ []))
+in-left [] y x i = absurd i
+in-left (z ∷ zs) y x (inl e) = inl e
+in-left (z ∷ zs) y x (inr i) = inr (in-left zs y x i)
+
+pub in-append : {A : Type 0} (a : A) (xs ys : List A) → In a (xs ++ ys) → In a xs ⊎ In a ys
+in-append a [] ys h = inr h
+in-append a (x ∷ xs) ys (inl e) = inl (inl e)
+in-append a (x ∷ xs) ys (inr h) = elim (in-append a xs ys h) [ inl i ↦ inl (inr i) | inr i ↦ inr i ]
+
 -- EVERY, SOME, FIND
 
 pub every-at : {A : Type 0} (f : A → Bool) (xs : List A) → every f xs ≡ true → (x : A) → In x xs → f x ≡ true
@@ -210,6 +220,14 @@ module _ {A : Type 0} (D : A → Type 0) (R : A → A → Type 0) where
   pass-from (goes {x = x} {y = w} k p) y (inl e) = (x, inl refl, w, k, e)
   pass-from (goes {x = x} {y = w} k p) y (inr h) = let r = pass-from p y h in (r .0, inr (r .1), r .2, r .3, r .4)
 
+  -- where one goes in a pass, or that it is gone
+  pub pass-to : {xs ys : List A} → Pass D R xs ys → (t : A) → In t xs → ((y : A) × In y ys × R t y) ⊎ D t
+  pass-to done t i = absurd i
+  pass-to (gone {x = x} d p) t (inl e) = inr (subst D (sym e) d)
+  pass-to (gone {x = x} d p) t (inr i) = pass-to p t i
+  pass-to (goes {x = x} {y = y} r p) t (inl e) = inl (y, inl refl, subst (λ z. R z y) (sym e) r)
+  pass-to (goes {x = x} {y = y} r p) t (inr i) = elim (pass-to p t i) [ inl (z, j, q) ↦ inl (z, inr j, q) | inr d ↦ inr d ]
+
   -- no more pass a test than before
   pub pass-down : (f : A → Bool) → ((x y : A) → R x y → f y ≡ true → f x ≡ true) → {xs ys : List A} → Pass D R xs ys → length (keep f ys) ≤ length (keep f xs)
   pass-down f h done = omega arith
@@ -264,3 +282,7 @@ pub once-end : {A : Type 0} (e : A → A → Bool) (xs : List A) (y : A) → Onc
 once-end e [] y o h = (λ z i. absurd i, tt)
 once-end e (x ∷ xs) y o h =
     (λ z i. elim (in-end z y xs i) [ inl j ↦ o .0 z j | inr q ↦ ap (e x) q ∙ h x (inl refl) ], once-end e xs y (o .1) (λ z i. h z (inr i)))
+
+pub once-append : {A : Type 0} (e : A → A → Bool) (xs ys : List A) → Once e xs → Once e ys → ((x y : A) → In x xs → In y ys → e x y ≡ false) → Once e (xs ++ ys)
+once-append e [] ys o p h = p
+once-append e (x ∷ xs) ys o p h = (λ z i. elim (in-append z xs ys i) [ inl j ↦ o .0 z j | inr j ↦ h x z (inl refl) j ], once-append e xs ys (o .1) p (λ a b i j. h a b (inr i) j))

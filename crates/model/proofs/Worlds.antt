@@ -15,8 +15,8 @@ use Rattle.model.specs.Lists.{some, every, keep, find, change, none, same}
 use Rattle.model.specs.Settle.{here, settle}
 use Rattle.model.specs.Calls.{Seen, Call, Forget, Report, Order, Reply, No, Yes, Run, Lines, Out, no, orders, answersReport, seenAs, heardFrom, does, down}
 use Rattle.model.specs.World.{Agent, Word, Up, Back, World, start, put, isOrder, isSeen, mayRun, isReadyIn, obeys, Step, Reach}
-use Rattle.model.specs.Promise.{ran, seenIn, NeverTooMuch, Anchored, NeverTwice}
-use Rattle.model.proofs.Lists.{to-true, from-true, clash, bool, In, in-from, in-to, in-keep, keep-in, some-from, some-at, some-not, not-to-false, Pass, done, gone, goes, pass-same, pass-from, pass-keep, Once, once-pass}
+use Rattle.model.specs.Promise.{ran, seenIn, NeverTooMuch, NeverTooMuchInAnyLife, Anchored, NeverTwice}
+use Rattle.model.proofs.Lists.{to-true, from-true, clash, bool, In, in-from, in-to, in-keep, keep-in, some-from, some-at, some-not, not-to-false, Pass, done, gone, goes, pass-same, pass-from, pass-to, pass-keep, Once, once-pass}
 use Rattle.model.proofs.Tasks.{rising-one}
 use Rattle.model.proofs.Settles.{Tidy, unplaced-alike, Fine}
 use Rattle.model.proofs.Room.{weigh, cpu-weigh, mem-weigh}
@@ -254,14 +254,6 @@ orders-in (t ∷ ts) o i = pick (isEnding (t .phase)) i (λ j. orders-in ts o j)
     pick false (inl e) r = (t, inl refl, sym (ap (λ (z : Order). z .id) e))
     pick false (inr j) r = let w = r j in (w .0, inr (w .1), w .2)
 
--- where one goes in a pass, or that it is gone
-pass-to : {A : Type 0} (D : A → Type 0) (R : A → A → Type 0) {xs ys : List A} → Pass D R xs ys → (t : A) → In t xs → ((y : A) × In y ys × R t y) ⊎ D t
-pass-to D R done t i = absurd i
-pass-to D R (gone {x = x} d p) t (inl e) = inr (subst D (sym e) d)
-pass-to D R (gone {x = x} d p) t (inr i) = pass-to D R p t i
-pass-to D R (goes {x = x} {y = y} r p) t (inl e) = inl (y, inl refl, subst (λ z. R z y) (sym e) r)
-pass-to D R (goes {x = x} {y = y} r p) t (inr i) = elim (pass-to D R p t i) [ inl (z, j, q) ↦ inl (z, inr j, q) | inr d ↦ inr d ]
-
 module _ (s : State) (f : Sound s) (ws : List Word) (i : ℕ) (a : Agent) (g : Agrees s ws i a) (l n : ℕ) (xs : List Seen) (up : In (Up i l n xs) ws) (m : Machine) (ms : List Machine) (e : find (isMachine i) (s .machines) ≡ m ∷ ms) (nw : News m l n) where
   abbrev u′ : State
   u′ = heard i l n xs s
@@ -464,8 +456,8 @@ inv-reach (Reach.then r s) = inv-step (inv-reach r) s
 runs-on : (w : World) → Inv w → (i : ℕ) (x : Seen) → In x (ran w i) → OnIt (w .herd .tasks) i (x .id)
 runs-on w h i x j = let g = h .agents i in let o = g .runs x j in let t = g .ordered (o .0) (o .1) .1 in (t .0, t .1, t .2 ∙ o .2, t .3)
 
-pub never-too-much : NeverTooMuch
-never-too-much w r i m mi e l = (
+pub never-too-much-in-any-life : NeverTooMuchInAnyLife
+never-too-much-in-any-life w r i m mi e = (
   λ x xi. let t = runs-on w h i x (in-from xi) in from-true _ (some-from (λ (y : Task). eqb (y .id) (x .id)) (here m (w .herd .tasks)) (t .0) (keep-in (onMachine (m .num)) (w .herd .tasks) (t .0) (t .1) (subst (λ (k : ℕ). onMachine k (t .0) ≡ true) (sym e) (t .3))) (eq-eqb (t .0 .id) (x .id) (t .2))),
   subst (λ (k : ℕ). k ≤ m .cpu) (sym (cpu-weigh (here m (w .herd .tasks)))) (h .sound .room m (in-from mi) .0),
   subst (λ (k : ℕ). k ≤ m .mem) (sym (mem-weigh (here m (w .herd .tasks)))) (h .sound .room m (in-from mi) .1),
@@ -474,8 +466,18 @@ never-too-much w r i m mi e l = (
     h : Inv w
     h = inv-reach r
 
+pub never-too-much : NeverTooMuch
+never-too-much w r i m mi e l = never-too-much-in-any-life w r i m mi e
+
 pub anchored : Anchored
 anchored w r i x xi = let g = inv-reach r .agents i in let o = g .runs x (in-from xi) in let v = g .ordered (o .0) (o .1) .0 in (v .0, in-to (v .0) (w .herd .machines) (v .1 .0), v .1 .1, v .1 .2)
+
+-- what runs by one number runs on one machine
+pub one-place : (w : World) → Inv w → (i j : ℕ) (x y : Seen) → In x (ran w i) → In y (ran w j) → x .id ≡ y .id → i ≡ j
+one-place w h i j x y xi yi e =
+    let p = runs-on w h i x xi in let q = runs-on w h j y yi in
+    let z : p .0 ≡ q .0 = rising-one 0 (w .herd .tasks) (h .sound .fine .tidy .0) (p .0) (q .0) (p .1) (q .1) (p .2 ∙ (e ∙ sym (q .2))) in
+    on-machine i (p .0) (p .3) .1 ∙ (ap (λ (t : Task). t .machine) z ∙ sym (on-machine j (q .0) (q .3) .1))
 
 seen-at : (k : ℕ) (xs : List Seen) → seenIn k xs ≡ true → (x : Seen) × In x xs × (k ≡ x .id)
 unfolding seenIn
@@ -504,8 +506,4 @@ never-twice w r i j k s = (λ t. apart (to-true _ t), λ before behind b e. let 
     h = inv-reach r
 
     apart : seenIn k (ran w j) ≡ true → i ≡ j
-    apart t =
-        let x = seen-at k (ran w i) (to-true _ s) in let y = seen-at k (ran w j) t in
-        let p = runs-on w h i (x .0) (x .1) in let q = runs-on w h j (y .0) (y .1) in
-        let e : p .0 ≡ q .0 = rising-one 0 (w .herd .tasks) (h .sound .fine .tidy .0) (p .0) (q .0) (p .1) (q .1) (p .2 ∙ (sym (x .2) ∙ (y .2 ∙ sym (q .2)))) in
-        on-machine i (p .0) (p .3) .1 ∙ (ap (λ (z : Task). z .machine) e ∙ sym (on-machine j (q .0) (q .3) .1))
+    apart t = let x = seen-at k (ran w i) (to-true _ s) in let y = seen-at k (ran w j) t in one-place w h i j (x .0) (y .0) (x .1) (y .1) (sym (x .2) ∙ y .2)

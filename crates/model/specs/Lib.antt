@@ -6,3 +6,4 @@ pub mod World
 pub mod Memory
 pub mod Right
 pub mod Promise
+pub mod Always

@@ -47,6 +47,13 @@ NeverTooMuch =
     ((x : Seen) → List·Memᴰ x (ran w i) → T (some (λ (t : Task). eqb (t .id) (x .id)) (here m (w .herd .tasks)))) ×
     (cpuOf (here m (w .herd .tasks)) ≤ m .cpu) × (memOf (here m (w .herd .tasks)) ≤ m .mem)
 
+-- the same in whatever life the machine's agent is
+abbrev pub NeverTooMuchInAnyLife : Type 0
+NeverTooMuchInAnyLife =
+    (w : World) → Reach w → (i : ℕ) (m : Machine) → List·Memᴰ m (w .herd .machines) → m .num ≡ i →
+    ((x : Seen) → List·Memᴰ x (ran w i) → T (some (λ (t : Task). eqb (t .id) (x .id)) (here m (w .herd .tasks)))) ×
+    (cpuOf (here m (w .herd .tasks)) ≤ m .cpu) × (memOf (here m (w .herd .tasks)) ≤ m .mem)
+
 -- and where anything runs, the herd has that machine, in that life
 abbrev pub Anchored : Type 0
 Anchored = (w : World) → Reach w → (i : ℕ) (x : Seen) → List·Memᴰ x (ran w i) → (m : Machine) × List·Memᴰ m (w .herd .machines) × (m .num ≡ i) × (m .life ≡ w .agent i .life)
@@ -94,6 +101,12 @@ NeverMore = (c : Call) (s : State) → Good s → T (allOk s (s .jobs)) → (isS
 abbrev pub LeastStay : Type 0
 LeastStay =
     (s : State) (j : Job) → Good s → List·Memᴰ j (s .jobs) → find (isJob (j .name)) (s .jobs) ≡ j ∷ [] →
+    (j .least ≤ length (readyOnes (mine j (settle s .tasks)))) ⊎ (length (readyOnes (mine j (s .tasks))) ≤ length (readyOnes (mine j (settle s .tasks))))
+
+-- the same without saying that the job is found by its name: in a good state it is
+abbrev pub LeastStays : Type 0
+LeastStays =
+    (s : State) (j : Job) → Good s → List·Memᴰ j (s .jobs) →
     (j .least ≤ length (readyOnes (mine j (settle s .tasks)))) ⊎ (length (readyOnes (mine j (s .tasks))) ≤ length (readyOnes (mine j (settle s .tasks))))
 
 -- e. After a pass no task waits that a machine would take.

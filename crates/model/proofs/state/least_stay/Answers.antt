@@ -1,4 +1,4 @@
-use Rattle.model.proofs.Settles.{least-stay}
+use Rattle.model.proofs.Least.{least-stay}
 use Rattle.model.proofs.state.least_stay.Needs as need
 
 pub returns : need.returns
