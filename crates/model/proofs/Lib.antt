@@ -16,4 +16,4 @@ pub mod Ordered
 pub mod Waits
 pub mod Replies
 pub mod Over
-pub mod Cases
+pub mod Worked

@@ -7,7 +7,8 @@ use mathlib.Core.List.{List, [], _∷_, map}
 use Rattle.model.specs.State.{Machine, Task, State, Told, isReady, phased, blank}
 use Rattle.model.specs.Calls.{down}
 use Rattle.model.specs.Memory.{Memory, Code, Meant, Right, fitsDone, Halfway, comesTo}
-use Rattle.model.specs.Right.{RightBy, RunsRight}
+use Rattle.model.specs.Right.{RightBy, RunsRight, Darkens}
+use Rattle.model.specs.Promise.{DarkOnce}
 use Rattle.model.proofs.Runs.{right-is-right}
 
 pub right-by : {C R : Type 0} {j : Meant C R} {e : Code C R} {Tells : Memory → j .State → Type 0} {Awake : e .Mind → Memory → j .State → Type 0} → RightBy j e Tells Awake → Right j e
@@ -37,3 +38,6 @@ dark-twice s = let a = map-twice _ told-twice (s .tasks) in let b = map-twice (�
 
 pub dark-first : down blank ≡ blank
 dark-first = refl
+
+pub dark-once : DarkOnce
+dark-once can = record { twice = dark-twice; first = dark-first }

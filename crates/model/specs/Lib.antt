@@ -7,3 +7,4 @@ pub mod Memory
 pub mod Right
 pub mod Promise
 pub mod Always
+pub mod Cases

@@ -13,6 +13,7 @@ use Rattle.model.specs.Settle.{settle, here, takes, readyOnes, mine}
 use Rattle.model.specs.Calls.{Seen, Call, SetJob, Reply, No, does, down, core}
 use Rattle.model.specs.World.{World, Reach}
 use Rattle.model.specs.Memory.{Code, Meant, Right}
+use Rattle.model.specs.Right.{Darkens}
 
 -- OF THE HERD'S OWN MACHINE
 
@@ -30,6 +31,10 @@ Whole can e = Right (herd can) e
 
 abbrev pub CoreWhole : Code Call Reply → Type 1
 CoreWhole e = Whole core e
+
+-- going dark twice is going dark once, and at the beginning the dark changes nothing, whatever is built
+abbrev pub DarkOnce : Type 0
+DarkOnce = (can : Call → Bool) → Darkens (herd can)
 
 -- OF ALL TOGETHER, at every moment of every run, with agents by their rules, over lines that lose, double, delay and reorder, and with machines and the herd falling at any time
 

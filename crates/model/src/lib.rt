@@ -5,7 +5,7 @@
 //
 // state: of one call, one pass, one state
 // world: of all together, herd, agents and lines, at every moment of every run
-// table: worked cases, by computation
+// cases: worked cases, by computation
 pub mod state;
 pub mod world;
-pub mod table;
+pub mod cases;

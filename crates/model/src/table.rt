@@ -1,1 +1,0 @@
-// Worked cases, by computation.
