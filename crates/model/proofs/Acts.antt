@@ -3,38 +3,21 @@
 use mathlib.Core.Path.{_≡_, refl, sym, _∙_, ap, subst}
 use mathlib.Core.Logic.{_⊎_, inl, inr}
 use mathlib.Core.Bool.{Bool, true, false, cond, _&&_, _||_, not}
-use mathlib.Core.List.{List, [], _∷_, _++_, map, List·Memᴰ}
-use Prim.Native.Nat.{ℕ, zero, suc, _+_, _<_, _≤_}
-use native.Mathlib.Omega.{arith}
-use native.Mathlib.Nat.{le-trans, le-refl}
-use lib.Dec.{eqb, ltb, leb, T}
+use mathlib.Core.List.{List, [], _∷_, _++_, map}
+use Prim.Native.Nat.{ℕ, _+_}
+use lib.Dec.{eqb, ltb, leb}
 use lib.ListN.{length}
-use Rattle.std.proofs.shelf.Tests.{true≢false, false≢true, and-parts, and-from, and-left, and-right, not-true, not-false, ltb-true, lt-ltb, leb-true, le-leb, eqb-true, eq-eqb, ne-eqb, cond-both}
-use Rattle.model.specs.State.{Name, Machine, Spec, Job, Phase, Waiting, Told, Ready, Ending, Task, State, blank, isWaiting, isReady, isEnding, isTask, isJob, isMachine, ofJob, onMachine, phased, placed, withTasks, withMachines, withJobs}
+use Rattle.std.proofs.shelf.Tests.{and-parts, not-true, not-false, eqb-true, eq-eqb, cond-both}
+use Rattle.model.specs.State.{Name, Machine, Spec, Job, Phase, Told, Ready, Task, State, isWaiting, isReady, isEnding, isJob, isMachine, ofJob, onMachine, phased, withTasks, withMachines, withJobs}
 use Rattle.model.specs.Lists.{some, every, keep, find, change, none, same}
-use Rattle.model.specs.Settle.{mine, readyOnes, ended, fresh, forJob, forJobs, orphansEnd, placeAll, settle}
-use Rattle.model.specs.Calls.{Seen, Call, SetJob, EndJob, AddMachine, Close, Reopen, Forget, Report, Tick, Show, Reply, Yes, Run, Lines, Out, no, yes', sameSpec, jobOk, allMost, others, setsJob, small, seenAs, heardOf, heardAll, heardFrom, answersReport, reports, opened, unsure, later, timed, linesOf, acts, isTick, does, down}
-use Rattle.model.specs.Promise.{onceJobs, onceMachines, risingTasks, Good, StaysGood, NeverMore, allOk, Raises, isSet}
-use Rattle.model.proofs.Lists.{to-true, from-true, clash, bool, In, in-from, in-to, in-end, find-none, keep-end, Pass, done, gone, goes, pass-same, pass-from, pass-keep, pass-change, pass-map, pass-down, bump, Once, once-pass, once-end, not-some}
-use Rattle.model.proofs.Tasks.{same-eq, same-sym, same-refl, eq-same, unsame-sym, Ends, jobless, orphans-pass, ended-pass, mayGrow, more, MayEnd, step-is, steps-are, Put, Never}
-use Rattle.model.proofs.Settles.{Tidy, tidy-pass, tidy-step, tidy-settle, orphan-id, EndsOne, tidy-ended, unplaced, unplaced-alike, settle-pass, once-job, Fine, fine-from, fine-to}
+use Rattle.model.specs.Settle.{settle}
+use Rattle.model.specs.Calls.{Seen, Call, SetJob, EndJob, AddMachine, Close, Reopen, Forget, Report, Tick, Show, Lines, Out, no, yes', sameSpec, jobOk, allMost, others, setsJob, small, seenAs, heardOf, heardAll, heardFrom, answersReport, reports, opened, unsure, later, timed, linesOf, acts, isTick, does, down, newJob, resetJob, newMachine, heard, forgotten}
+use Rattle.model.specs.Promise.{StaysGood}
+use Rattle.model.proofs.Lists.{clash, bool, find-none, none-true, Pass, done, gone, goes, pass-keep, pass-change, pass-map, Once, once-pass, once-end}
+use Rattle.model.proofs.Tasks.{same-eq, unsame-sym, Never}
+use Rattle.model.proofs.Settles.{tidy-pass, tidy-settle, unplaced-alike, Fine, fine-from, fine-to}
 
 -- CALLS, BY WHAT THEY LEAVE
-
-abbrev pub newJob : Name → Spec → ℕ → ℕ → ℕ → Job
-newJob n a c l m = record { name = n; version = 1; spec = a; count = c; least = l; most = m }
-
-abbrev pub resetJob : Name → Spec → ℕ → ℕ → ℕ → Job → Job
-resetJob n a c l m x = record { name = n; version = cond (sameSpec a (x .spec)) (x .version) (x .version + 1); spec = a; count = c; least = l; most = m }
-
-abbrev pub newMachine : ℕ → ℕ → ℕ → List ℕ → Machine
-newMachine k c m tags = record { num = k; cpu = c; mem = m; tags = tags; open' = true; life = 0; number = 0; heard = 0 }
-
-abbrev pub heard : ℕ → ℕ → ℕ → List Seen → State → State
-heard k l n xs s = withMachines (change (isMachine k) (heardFrom l n (s .now)) (s .machines)) (withTasks (heardAll k l xs (s .tasks)) s)
-
-abbrev pub forgotten : ℕ → State → State
-forgotten k s = withMachines (keep (λ (m : Machine). not (isMachine k m)) (s .machines)) (withTasks (keep (λ (t : Task). not (onMachine k t)) (s .tasks)) s)
 
 abbrev pub Must : (Out → Type 0) → Call → State → Type 0
 Must P (SetJob n a c l m) s =
@@ -71,11 +54,6 @@ must-settle Q h (Forget k) s q p = h _ p
 must-settle Q h (Report k l n xs) s q p = λ m ms e g. h _ (p m ms e g)
 must-settle Q h (Tick t) s q p = h _ p
 must-settle Q h (Show n) s q p = q
-
-pub none-true : {A : Type 0} (xs : List A) → none xs ≡ true → xs ≡ []
-unfolding none
-none-true [] e = refl
-none-true (x ∷ xs) e = absurd (false≢true e)
 
 pub sets-is : (P : Out → Type 0) (n : Name) (a : Spec) (c l m : ℕ) (s : State) → ((k : ℕ) → P (no k s)) → Must P (SetJob n a c l m) s → (js : List Job) → find (isJob n) (s .jobs) ≡ js → P (setsJob n a c l m js s)
 unfolding setsJob

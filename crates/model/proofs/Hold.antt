@@ -2,23 +2,20 @@
 -- Assumes nothing.
 use mathlib.Core.Path.{_≡_, refl, sym, _∙_, ap, subst}
 use mathlib.Core.Logic.{_⊎_, inl, inr}
-use mathlib.Core.Bool.{Bool, true, false, cond, _&&_, _||_, not}
-use mathlib.Core.List.{List, [], _∷_, _++_, map, List·Memᴰ}
-use Prim.Native.Nat.{ℕ, zero, suc, _+_, _<_, _≤_}
+use mathlib.Core.Bool.{Bool, true, false, cond, _&&_, not}
+use mathlib.Core.List.{List, [], _∷_, _++_}
+use Prim.Native.Nat.{ℕ, suc, _+_, _≤_}
 use native.Mathlib.Omega.{arith}
-use native.Mathlib.Nat.{le-trans, le-refl}
-use lib.Dec.{eqb, ltb, leb, T}
-use lib.ListN.{length}
-use Rattle.std.proofs.shelf.Tests.{true≢false, false≢true, and-parts, and-from, and-left, and-right, not-true, not-false, not-from-false, ltb-true, leb-true, le-leb, eqb-true, eq-eqb, eqb-false, ne-eqb, cond-both}
-use Rattle.model.specs.State.{Name, Machine, Spec, Job, Phase, Waiting, Told, Ready, Ending, Task, State, blank, isWaiting, isReady, isEnding, isTask, isJob, isMachine, ofJob, onMachine, phased, placed, withTasks, withMachines, withJobs, cpuOf, memOf}
-use Rattle.model.specs.Lists.{some, every, keep, find, change, none, same}
-use Rattle.model.specs.Settle.{here, present, takes, best, place, placeAll, ended, fresh, forJob, forJobs, orphansEnd, settle}
-use Rattle.model.specs.Calls.{Seen, Call, SetJob, EndJob, AddMachine, Close, Reopen, Forget, Report, Tick, Show, Out, heardAll, heardFrom, opened, unsure, later, timed, does, down}
-use Rattle.model.proofs.Lists.{to-true, from-true, clash, bool, In, in-from, in-to, in-end, find-none, in-keep, keep-in, keep-no, Pass, done, gone, goes, pass-same, pass-from, pass-keep, pass-change, pass-map, pass-weaken, Once}
-use Rattle.model.proofs.Tasks.{Rising, rising-one, Ends, jobless, orphans-pass, ended-pass, mayGrow, more, MayEnd, step-is, steps-are, Places, Put, Never, Queue, queue-next, queue-of, told-not-waiting}
-use Rattle.model.proofs.Settles.{Tidy, tidy-pass, tidy-step, orphan-id, EndsOne, unplaced, tidy-unplaced, unplaced-alike, settle-pass, Fine}
+use native.Mathlib.Nat.{le-trans}
+use lib.Dec.{eqb, leb}
+use Rattle.std.proofs.shelf.Tests.{and-parts, leb-true, eqb-true, eq-eqb}
+use Rattle.model.specs.State.{Machine, Spec, Job, Phase, Waiting, Ending, Task, State, isWaiting, isTask, ofJob, onMachine, phased, placed, withTasks, cpuOf, memOf}
+use Rattle.model.specs.Lists.{some, every, keep, change, same}
+use Rattle.model.specs.Settle.{here, present, takes, best, place, placeAll, ended, fresh, forJob, orphansEnd, settle, more, unplaced}
+use Rattle.model.proofs.Lists.{clash, In, in-end, keep-no, in-keep, Pass, done, gone, goes, pass-same, pass-change, pass-from, pass-weaken, Once}
+use Rattle.model.proofs.Tasks.{rising-one, Ends, jobless, orphans-pass, ended-pass, MayEnd, step-is, steps-are, Put, Never, Queue, queue-next, queue-of}
+use Rattle.model.proofs.Settles.{Tidy, tidy-pass, tidy-step, orphan-id, EndsOne, unplaced-alike, settle-pass, Fine}
 use Rattle.model.proofs.Room.{weigh, cpu-weigh, mem-weigh, weigh-cons, waits-nowhere, best-in}
-use Rattle.model.proofs.Acts.{newMachine, heard, forgotten, Pre, HeardGone, HeardAs, heard-pass}
 
 -- WHAT HOLDS OF MACHINES AND TASKS
 

@@ -2,23 +2,22 @@
 -- Assumes nothing.
 use mathlib.Core.Path.{_≡_, refl, sym, _∙_, ap, subst}
 use mathlib.Core.Logic.{_⊎_, inl, inr}
-use mathlib.Core.Bool.{Bool, true, false, cond, _&&_, _||_, not}
-use mathlib.Core.List.{List, [], _∷_, _++_, map, List·Memᴰ}
-use Prim.Native.Nat.{ℕ, zero, suc, _+_, _<_, _≤_}
+use mathlib.Core.Bool.{Bool, true, false, cond, _&&_, not}
+use mathlib.Core.List.{List, [], _∷_, map}
+use Prim.Native.Nat.{ℕ, _≤_}
 use native.Mathlib.Omega.{arith}
-use native.Mathlib.Nat.{le-trans, le-refl}
-use lib.Dec.{eqb, ltb, leb, T}
-use lib.ListN.{length}
-use Rattle.std.proofs.shelf.Tests.{true≢false, false≢true, and-parts, and-from, and-left, and-right, not-true, not-false, not-from-false, ltb-true, leb-true, le-leb, eqb-true, eq-eqb, eqb-false, ne-eqb, cond-both}
-use Rattle.model.specs.State.{Name, Machine, Spec, Job, Phase, Waiting, Told, Ready, Ending, Task, State, blank, isWaiting, isReady, isEnding, isTask, isJob, isMachine, ofJob, onMachine, phased, placed, withTasks, withMachines, withJobs, cpuOf, memOf}
-use Rattle.model.specs.Lists.{some, every, keep, find, change, none, same}
+use native.Mathlib.Nat.{le-trans}
+use lib.Dec.{eqb}
+use Rattle.std.proofs.shelf.Tests.{false≢true, and-parts, and-from, not-true, not-false, eqb-true, eq-eqb, eqb-false, ne-eqb, cond-both}
+use Rattle.model.specs.State.{Machine, Phase, Waiting, Told, Ready, Ending, Task, State, isWaiting, isReady, isMachine, onMachine, phased}
+use Rattle.model.specs.Lists.{keep, find, change}
 use Rattle.model.specs.Settle.{here, settle}
-use Rattle.model.specs.Calls.{Seen, Call, SetJob, EndJob, AddMachine, Close, Reopen, Forget, Report, Tick, Show, Out, heardAll, heardFrom, opened, unsure, later, timed, does, down}
-use Rattle.model.proofs.Lists.{to-true, from-true, clash, bool, In, in-from, in-to, in-end, in-left, find-none, in-keep, keep-in, keep-no, Pass, done, gone, goes, pass-same, pass-from, pass-keep, pass-change, pass-map, pass-weaken, Once}
+use Rattle.model.specs.Calls.{Seen, Call, SetJob, EndJob, AddMachine, Close, Reopen, Forget, Report, Tick, Show, heardAll, heardFrom, opened, unsure, later, does, down, newMachine, heard, forgotten}
+use Rattle.model.proofs.Lists.{clash, bool, In, in-end, in-left, find-none, find-in, in-keep, keep-in, change-hit, change-miss, Pass, done, gone, goes, pass-same, pass-keep, pass-change, pass-map, pass-from, pass-weaken}
 use Rattle.model.proofs.Tasks.{Never, told-not-waiting}
 use Rattle.model.proofs.Settles.{Tidy, tidy-settle, unplaced-alike, Fine}
 use Rattle.model.proofs.Room.{weigh}
-use Rattle.model.proofs.Acts.{newMachine, heard, forgotten, Pre, does-keeps, HeardGone, HeardAs, heard-pass, fine-settle, fine-pre, fine-down}
+use Rattle.model.proofs.Acts.{Pre, does-keeps, HeardGone, HeardAs, heard-pass, fine-settle, fine-pre, fine-down}
 use Rattle.model.proofs.Hold.{Toldʰ, Roomʰ, cpu′, mem′, OnIt, Stay, stay-eq, stay-phase, stay-on, told-stay, room-stay, on-pass, on-stay, hold-settle, on-settle}
 
 -- MACHINES THAT STAY AS THEY ARE, BUT FOR BEING OPEN OR HEARD OF
@@ -79,35 +78,6 @@ down-firm : (s : State) → Pass NoM Firm (s .machines) (down s .machines)
 down-firm s = pass-map NoM Firm _ (s .machines) (λ x i. (refl, refl, refl, refl, refl))
 
 -- A REPORT
-
-pub find-in : {A : Type 0} (f : A → Bool) (xs : List A) (m : A) (ms : List A) → find f xs ≡ m ∷ ms → In m xs × (f m ≡ true)
-unfolding find
-find-in f [] m ms e = let z : _≡_ {A = ℕ} 0 1 = cc in absurd (omega arith)
-find-in {A} f (x ∷ xs) m ms e = pick (f x) refl e (λ e′. find-in f xs m ms e′)
-  where
-    pick : (b : Bool) → f x ≡ b → cond b (x ∷ []) (find f xs) ≡ m ∷ ms → (find f xs ≡ m ∷ ms → In m xs × (f m ≡ true)) → In m (x ∷ xs) × (f m ≡ true)
-    pick true p q r = let c : m ≡ x = cc in (inl c, ap f c ∙ p)
-    pick false p q r = let w = r q in (inr (w .0), w .1)
-
-pub change-hit : {A : Type 0} (f : A → Bool) (g : A → A) (xs : List A) (m : A) (ms : List A) → find f xs ≡ m ∷ ms → In (g m) (change f g xs)
-unfolding find change
-change-hit f g [] m ms e = let z : _≡_ {A = ℕ} 0 1 = cc in absurd (omega arith)
-change-hit {A} f g (x ∷ xs) m ms e = pick (f x) e (λ e′. change-hit f g xs m ms e′)
-  where
-    pick : (b : Bool) → cond b (x ∷ []) (find f xs) ≡ m ∷ ms → (find f xs ≡ m ∷ ms → In (g m) (change f g xs)) → In (g m) (cond b (g x ∷ xs) (x ∷ change f g xs))
-    pick true q r = let c : m ≡ x = cc in inl (ap g c)
-    pick false q r = inr (r q)
-
-change-miss : {A : Type 0} (f : A → Bool) (g : A → A) (xs : List A) (x : A) → In x xs → f x ≡ false → In x (change f g xs)
-unfolding change
-change-miss f g [] x i e = absurd i
-change-miss f g (y ∷ ys) x i e = pick (f y) refl i (λ j. change-miss f g ys x j e)
-  where
-    pick : (b : Bool) → f y ≡ b → In x (y ∷ ys) → (In x ys → In x (change f g ys)) → In x (cond b (g y ∷ ys) (y ∷ change f g ys))
-    pick true p (inl q) r = clash (f x) (ap f q ∙ p) e
-    pick true p (inr j) r = inr j
-    pick false p (inl q) r = inl q
-    pick false p (inr j) r = inr (r j)
 
 pub heard-stay : (k l : ℕ) (x y : Task) → HeardAs k l x y → Stay x y
 heard-stay k l x y (inl h) = stay-eq x y (h .1)

@@ -1,24 +1,22 @@
 -- Whatever the herd does, a task's number, likeness and job stay, and numbers are given once; a call's own test may be used of what it leaves.
 -- Assumes nothing.
-use mathlib.Core.Path.{_≡_, refl, sym, _∙_, ap, subst}
+use mathlib.Core.Path.{_≡_, refl, ap}
 use mathlib.Core.Logic.{_⊎_, inl, inr}
-use mathlib.Core.Bool.{Bool, true, false, cond, _&&_, _||_, not}
-use mathlib.Core.List.{List, [], _∷_, _++_, map, List·Memᴰ}
-use Prim.Native.Nat.{ℕ, zero, suc, _+_, _<_, _≤_}
-use native.Mathlib.Omega.{arith}
-use native.Mathlib.Nat.{le-trans, le-refl}
-use lib.Dec.{eqb, ltb, leb, T}
+use mathlib.Core.Bool.{Bool, true, false, _&&_, _||_, not}
+use mathlib.Core.List.{List, [], _∷_, map}
+use Prim.Native.Nat.{ℕ, _+_}
+use lib.Dec.{eqb, ltb, leb}
 use lib.ListN.{length}
-use Rattle.std.proofs.shelf.Tests.{and-parts, not-false, cond-both}
-use Rattle.model.specs.State.{Name, Machine, Spec, Job, Phase, Told, Task, State, blank, isReady, isJob, isMachine, onMachine, phased, withTasks, withMachines, withJobs}
-use Rattle.model.specs.Lists.{every, keep, find, change, none}
-use Rattle.model.specs.Settle.{ended, fresh, orphansEnd, settle}
-use Rattle.model.specs.Calls.{Seen, Call, SetJob, EndJob, AddMachine, Close, Reopen, Forget, Report, Tick, Show, Out, no, jobOk, small, allMost, others, setsJob, reports, heardAll, unsure, later, timed, acts, isTick, does, down}
-use Rattle.model.specs.World.{Agent, World, start, Step, Reach}
-use Rattle.model.proofs.Lists.{In, in-end, Pass, done, gone, goes, pass-same, pass-from, pass-keep, pass-map, pass-weaken}
-use Rattle.model.proofs.Tasks.{jobless, Ends, orphans-pass, ended-pass, mayGrow, more, MayEnd, step-is, steps-are, Put, Never}
-use Rattle.model.proofs.Settles.{Tidy, tidy-pass, tidy-step, orphan-id, EndsOne, unplaced, settle-pass, Fine}
-use Rattle.model.proofs.Acts.{Must, Pre, heard, none-true, sets-is, reports-is, HeardAs, heard-pass}
+use Rattle.std.proofs.shelf.Tests.{not-false, cond-both}
+use Rattle.model.specs.State.{Machine, Job, Told, Task, State, blank, isReady, isJob, isMachine, phased, withTasks}
+use Rattle.model.specs.Lists.{every, keep, find, none}
+use Rattle.model.specs.Settle.{ended, orphansEnd, settle, mayGrow, more, unplaced}
+use Rattle.model.specs.Calls.{Seen, Call, SetJob, EndJob, AddMachine, Close, Reopen, Forget, Report, Tick, Show, Out, no, jobOk, small, allMost, others, reports, heardAll, unsure, acts, isTick, does, down}
+use Rattle.model.specs.World.{World, Step, Reach}
+use Rattle.model.proofs.Lists.{In, none-true, Pass, pass-same, pass-keep, pass-map, pass-weaken}
+use Rattle.model.proofs.Tasks.{jobless, Ends, orphans-pass, ended-pass, MayEnd, step-is, steps-are, Put}
+use Rattle.model.proofs.Settles.{Tidy, tidy-pass, tidy-step, orphan-id, EndsOne, settle-pass}
+use Rattle.model.proofs.Acts.{Must, Pre, sets-is, reports-is, HeardAs, heard-pass}
 use Rattle.model.proofs.Keeps.{Sound}
 use Rattle.model.proofs.Worlds.{inv-reach}
 

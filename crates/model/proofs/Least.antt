@@ -2,20 +2,20 @@
 -- Assumes nothing.
 use mathlib.Core.Path.{_≡_, refl, sym, _∙_, ap, subst}
 use mathlib.Core.Logic.{_⊎_, inl, inr}
-use mathlib.Core.Bool.{Bool, true, false, cond, _&&_, _||_, not}
-use mathlib.Core.List.{List, [], _∷_, _++_, List·Memᴰ}
-use Prim.Native.Nat.{ℕ, suc, _+_, _<_, _≤_}
+use mathlib.Core.Bool.{Bool, true, false, _&&_}
+use mathlib.Core.List.{List, [], _∷_}
+use Prim.Native.Nat.{ℕ, suc, _<_, _≤_}
 use native.Mathlib.Omega.{arith}
 use native.Mathlib.Nat.{le-trans, le-refl}
 use lib.ListN.{length}
 use Rattle.std.proofs.shelf.Tests.{and-parts, and-from, and-right, not-true, false≢true}
-use Rattle.model.specs.Lists.{some, keep, find, change, same}
-use Rattle.model.specs.State.{Name, Job, Phase, Waiting, Ready, Ending, Task, State, isWaiting, isReady, isTask, isJob, ofJob, phased, withTasks}
+use Rattle.model.specs.Lists.{some, keep, change, same}
+use Rattle.model.specs.State.{Job, Phase, Waiting, Ending, Task, State, isWaiting, isReady, isTask, ofJob, phased, withTasks}
 use Rattle.model.specs.Settle.{mine, readyOnes, ended, fresh, more, forJob, orphansEnd, unplaced, settle}
-use Rattle.model.specs.Promise.{Good, LeastStay, LeastStays}
+use Rattle.model.specs.Promise.{LeastStay, LeastStays}
 use Rattle.model.specs.Always.{TakesFew, PassTakesFew}
-use Rattle.model.proofs.Lists.{to-true, clash, bool, In, in-from, in-to, some-from, keep-keep, keep-end, pass-up, pass-to, change-down, bump, in-left}
-use Rattle.model.proofs.Tasks.{same-eq, eq-same, waiting-not-ready, jobless, Ends, orphans-pass, ended-pass, MayEnd, step-is, steps-are, Put, Never}
+use Rattle.model.proofs.Lists.{to-true, clash, bool, In, in-from, in-to, in-left, some-from, keep-keep, bump, keep-end, change-down, pass-to, pass-up}
+use Rattle.model.proofs.Tasks.{same-eq, eq-same, waiting-not-ready, jobless, Ends, orphans-pass, ended-pass, MayEnd, step-is, steps-are, Put}
 use Rattle.model.proofs.Settles.{Tidy, tidy-pass, tidy-step, orphan-id, EndsOne, settle-pass, once-job, Fine, fine-from}
 use Rattle.model.proofs.Room.{put-stays}
 

@@ -3,21 +3,21 @@
 use mathlib.Core.Path.{_≡_, refl, sym, _∙_, ap, subst}
 use mathlib.Core.Logic.{_⊎_, inl, inr}
 use mathlib.Core.Bool.{Bool, true, false, _&&_, not}
-use mathlib.Core.List.{List, [], _∷_, _++_, List·Memᴰ}
-use Prim.Native.Nat.{ℕ, suc, _+_, _<_, _≤_}
+use mathlib.Core.List.{List, [], _∷_, _++_}
+use Prim.Native.Nat.{ℕ, _<_, _≤_}
 use native.Mathlib.Omega.{arith}
 use native.Mathlib.Nat.{le-trans}
-use lib.Dec.{eqb, ltb, leb}
+use lib.Dec.{ltb, leb}
 use lib.ListN.{length}
 use Rattle.std.proofs.shelf.Tests.{and-parts, and-from, ltb-true, leb-true, le-leb}
 use Rattle.model.specs.Lists.{keep, find, change, same}
-use Rattle.model.specs.State.{Name, Machine, Spec, Job, Task, State, isJob, ofJob, onMachine, withTasks}
+use Rattle.model.specs.State.{Name, Spec, Job, Task, State, isJob, ofJob, onMachine, withTasks}
 use Rattle.model.specs.Settle.{mine, alive, newOnes, mayGrow, more, ended, fresh, forJob, orphansEnd, unplaced, settle}
-use Rattle.model.specs.Calls.{Seen, Call, SetJob, EndJob, AddMachine, Close, Reopen, Forget, Report, Tick, Show, No, Yes, Out, newJob, resetJob, later, does, down}
-use Rattle.model.specs.Promise.{Good, NeverMore, allOk, Raises, isSet}
+use Rattle.model.specs.Calls.{Call, SetJob, EndJob, AddMachine, Close, Reopen, Forget, Report, Tick, Show, No, Yes, Out, newJob, resetJob, later, does, down}
+use Rattle.model.specs.Promise.{NeverMore, allOk, Raises, isSet}
 use Rattle.model.specs.Always.{Raised, Spares}
-use Rattle.model.proofs.Lists.{to-true, from-true, clash, bool, In, in-from, in-to, in-end, find-none, in-keep, keep-end, Pass, pass-from, pass-change, pass-down, bump}
-use Rattle.model.proofs.Tasks.{same-eq, eq-same, Ends, jobless, orphans-pass, MayEnd, step-is, steps-are}
+use Rattle.model.proofs.Lists.{to-true, from-true, clash, bool, In, in-from, in-to, in-end, find-none, in-keep, bump, keep-end, keep-nothing, Pass, pass-change, pass-from, pass-down}
+use Rattle.model.proofs.Tasks.{same-eq, eq-same, orphans-pass, MayEnd, step-is, steps-are}
 use Rattle.model.proofs.Settles.{Tidy, tidy-pass, tidy-step, orphan-id, unplaced-alike, once-job, Fine, fine-from}
 use Rattle.model.proofs.Acts.{Must, does-is, fine-pre}
 use Rattle.model.proofs.Kin.{Same, Any, ended-kin, orphans-kin, settle-kin, heard-kin, keep-kin, timed-kin, down-kin}
@@ -77,11 +77,6 @@ fit-settle n s f h = subst (λ (js : List Job). Fit n js (settle s .tasks)) (sym
         (tidy-pass _ _ (orphan-id (s .jobs)) s (orphans-pass (s .jobs) (s .tasks)) (f .tidy), fit-pass n (s .jobs) (orphans-kin (s .jobs) (s .tasks)) h)
 
 -- SETTING A JOB
-
-keep-nothing : (f : Task → Bool) (ts : List Task) → ((t : Task) → In t ts → f t ≡ false) → length (keep f ts) ≤ 0
-unfolding keep
-keep-nothing f [] h = omega arith
-keep-nothing f (t ∷ ts) h = rw (h t (inl refl)) (keep-nothing f ts (λ x i. h x (inr i)))
 
 fit-new : (n k : Name) (a : Spec) (c l m : ℕ) (s : State) → FitIn n s → (k ≡ n → Raised n m s) → find (isJob k) (s .jobs) ≡ [] → Fit n (s .jobs ++ (newJob k a c l m ∷ [])) (s .tasks)
 fit-new n k a c l m s h r e j i q = elim (in-end j (newJob k a c l m) (s .jobs) i) [ inl p ↦ h j p q | inr p ↦ subst (λ (x : Job). length (mine x (s .tasks)) ≤ x .most) (sym p) (le-trans (keep-nothing (ofJob k) (s .tasks) (nobody (sym (ap (λ (x : Job). x .name) p) ∙ q))) (omega arith)) ]

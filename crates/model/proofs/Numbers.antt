@@ -1,22 +1,20 @@
 -- Task numbers are given once: a task keeps its job, version and spec as long as it is there, and whoever is gone never comes back.
 -- Assumes nothing.
-use mathlib.Core.Path.{_≡_, refl, sym, _∙_, ap, subst}
+use mathlib.Core.Path.{_≡_, sym, _∙_, ap, subst}
 use mathlib.Core.Logic.{_⊎_, inl, inr}
 use mathlib.Core.Bool.{not}
-use mathlib.Core.List.{List, _∷_, [], List·Memᴰ}
-use Prim.Native.Nat.{ℕ, _+_, _<_, _≤_}
+use mathlib.Core.List.{List}
+use Prim.Native.Nat.{ℕ, _<_}
 use native.Mathlib.Omega.{arith}
 use Rattle.model.specs.State.{Job, Task, State, onMachine, withTasks}
-use Rattle.model.specs.Lists.{keep}
 use Rattle.model.specs.Settle.{fresh, more, settle}
-use Rattle.model.specs.Calls.{Seen, Call, SetJob, EndJob, AddMachine, Close, Reopen, Forget, Report, Tick, Show, later, does, down}
-use Rattle.model.specs.World.{World, Step, Reach}
+use Rattle.model.specs.Calls.{Call, SetJob, EndJob, AddMachine, Close, Reopen, Forget, Report, Tick, Show, later, does, down}
+use Rattle.model.specs.World.{World}
 use Rattle.model.specs.Always.{Later, SameNumber, NeverBack}
 use Rattle.model.proofs.Lists.{In, in-from, in-to, in-end, Pass, pass-from}
 use Rattle.model.proofs.Tasks.{rising-one}
 use Rattle.model.proofs.Settles.{Fine}
 use Rattle.model.proofs.Acts.{Pre, does-keeps, fine-pre, fine-settle}
-use Rattle.model.proofs.Keeps.{Sound}
 use Rattle.model.proofs.Kin.{Same, Any, heard-kin, keep-kin, timed-kin, down-kin, settle-keeps, pre-both, step-herd}
 use Rattle.model.proofs.Worlds.{Inv, inv-step, inv-reach}
 
@@ -83,7 +81,7 @@ same-number w v r l t u ti ui e = given-later (t .id) (Likeness t) (λ x y p q. 
     mine x i q = let p = rising-one 0 (w .herd .tasks) (f .tidy .0) x t i (in-from ti) q in (ap (λ (y : Task). y .job) p, ap (λ (y : Task). y .version) p, ap (λ (y : Task). y .spec) p)
 
 pub never-back : NeverBack
-never-back w u v r a b t ti gone x xi e = given-later (t .id) (λ y. ⊥) (λ y z p q. q) (m .0) b (m .1 .0, λ y i q. gone y (in-to y (u .herd .tasks) i) q) .1 .1 x (in-from xi) e
+never-back w u v r a b t ti lost x xi e = given-later (t .id) (λ y. ⊥) (λ y z p q. q) (m .0) b (m .1 .0, λ y i q. lost y (in-to y (u .herd .tasks) i) q) .1 .1 x (in-from xi) e
   where
     h : Inv w
     h = inv-reach r

@@ -1,7 +1,7 @@
 -- What runs on a machine asks for no more than the machine has, each at the spec that was ordered.
 -- Assumes nothing.
 use mathlib.Core.Path.{_≡_, refl, sym, _∙_, ap, subst}
-use mathlib.Core.Logic.{_⊎_, inl, inr}
+use mathlib.Core.Logic.{inl, inr}
 use mathlib.Core.Bool.{Bool, true, false, cond, not}
 use mathlib.Core.List.{List, [], _∷_, List·Memᴰ}
 use Prim.Native.Nat.{ℕ, _+_, _<_, _≤_}
@@ -10,19 +10,19 @@ use native.Mathlib.Nat.{le-trans}
 use lib.Dec.{eqb}
 use Rattle.std.proofs.shelf.Tests.{not-from-false, not-from-true, eqb-true, eq-eqb, eqb-false, ne-eqb, cond-both}
 use Rattle.model.specs.Lists.{keep, find}
-use Rattle.model.specs.State.{Machine, Spec, Task, State, isEnding, onMachine}
+use Rattle.model.specs.State.{Spec, Task, State, isEnding, onMachine}
 use Rattle.model.specs.Settle.{here, settle}
 use Rattle.model.specs.Calls.{Seen, Call, Forget, Report, Order, Run, Out, orders, heard, does}
-use Rattle.model.specs.World.{Agent, Word, Up, Back, World, start, put, isOrder, Step, Reach}
-use Rattle.model.specs.Always.{asked, askedBy, Within, RunsWithin}
-use Rattle.model.proofs.Lists.{In, in-from, in-to, in-keep, keep-in, keep-no, Once}
+use Rattle.model.specs.World.{Agent, Back, World, put, isOrder, Step, Reach}
+use Rattle.model.specs.Always.{asked, askedBy, RunsWithin}
+use Rattle.model.proofs.Lists.{In, in-from, in-to, find-in, keep-no, in-keep, keep-in, Once}
 use Rattle.model.proofs.Tasks.{rising-one}
 use Rattle.model.proofs.Settles.{Fine}
 use Rattle.model.proofs.Room.{weigh, weigh-cons}
 use Rattle.model.proofs.Acts.{does-is, fine-settle, fine-heard}
-use Rattle.model.proofs.Hold.{OnIt, cpu′, mem′}
-use Rattle.model.proofs.Keeps.{Sound, find-in}
-use Rattle.model.proofs.Worlds.{Inv, Agrees, inv-reach, put-is}
+use Rattle.model.proofs.Hold.{cpu′, mem′}
+use Rattle.model.proofs.Keeps.{Sound}
+use Rattle.model.proofs.Worlds.{Agrees, inv-reach, put-is}
 use Rattle.model.proofs.Numbers.{Given, given-does, given-down}
 
 never : {C : Type 0} → _≡_ {A = ℕ} 0 1 → C

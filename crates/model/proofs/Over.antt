@@ -1,17 +1,17 @@
 -- In every run in which a job's most isn't lowered there are never more tasks of it than its most, nor do more run, on whatever machines.
 -- Assumes nothing.
-use mathlib.Core.Path.{_≡_, refl, sym, _∙_, ap, subst}
-use mathlib.Core.Logic.{_⊎_, inl, inr}
-use mathlib.Core.Bool.{Bool, true, false, _&&_, not}
-use mathlib.Core.List.{List, [], _∷_, _++_}
-use Prim.Native.Nat.{ℕ, suc, _+_, _≤_}
+use mathlib.Core.Path.{_≡_, refl, _∙_, ap}
+use mathlib.Core.Logic.{inl, inr}
+use mathlib.Core.Bool.{Bool, true, _&&_, not}
+use mathlib.Core.List.{List, [], _∷_}
+use Prim.Native.Nat.{ℕ, _≤_}
 use native.Mathlib.Omega.{arith}
 use native.Mathlib.Nat.{le-trans}
 use lib.Dec.{eqb}
 use lib.ListN.{length}
-use Rattle.std.proofs.shelf.Tests.{and-parts, not-true, eqb-true, eqb-false, eq-eqb, ne-eqb}
+use Rattle.std.proofs.shelf.Tests.{and-parts, not-true, eqb-true, eqb-false, ne-eqb}
 use Rattle.model.specs.Lists.{some, keep}
-use Rattle.model.specs.State.{Name, Job, Task, ofJob}
+use Rattle.model.specs.State.{Name, Task, ofJob}
 use Rattle.model.specs.Settle.{mine}
 use Rattle.model.specs.Calls.{Seen, Forget, Report}
 use Rattle.model.specs.World.{World, Step, Reach}

@@ -1,16 +1,15 @@
 -- A refusal leaves the state as it was; any other call leaves it too, or makes its own change, followed by one pass.
 -- Assumes nothing.
-use mathlib.Core.Path.{_≡_, refl, sym, _∙_, ap, subst}
+use mathlib.Core.Path.{_≡_, refl, sym, ap, subst}
 use mathlib.Core.Logic.{_⊎_, inl, inr}
-use mathlib.Core.Bool.{Bool, true, false, cond, not}
+use mathlib.Core.Bool.{cond}
 use mathlib.Core.List.{List, [], _∷_, _++_}
-use Prim.Native.Nat.{ℕ, _+_}
+use Prim.Native.Nat.{ℕ}
 use native.Mathlib.Omega.{arith}
 use Rattle.model.specs.Lists.{find, change, none}
-use Rattle.model.specs.State.{Name, Spec, Job, Machine, State, isJob, withJobs}
+use Rattle.model.specs.State.{Name, Spec, Job, State, isJob, withJobs}
 use Rattle.model.specs.Settle.{settle}
 use Rattle.model.specs.Calls.{Call, SetJob, EndJob, AddMachine, Close, Reopen, Forget, Report, Tick, Show, No, Out, newJob, resetJob, does}
-use Rattle.model.specs.World.{World, Reach}
 use Rattle.model.specs.Always.{entered, RefusalKeeps, TakesFew, AlwaysTakesFew}
 use Rattle.model.proofs.Settles.{Fine}
 use Rattle.model.proofs.Acts.{Must, does-is, fine-pre}

@@ -1,13 +1,12 @@
 -- What is right by two relations is right, and its runs are.
 -- Assumes nothing.
 use mathlib.Core.Path.{_≡_, refl}
-use mathlib.Core.Logic.{_⊎_, inl, inr}
 use mathlib.Core.Bool.{Bool, true, false, cond}
 use mathlib.Core.List.{List, [], _∷_, map}
 use Rattle.model.specs.State.{Machine, Task, State, Told, isReady, phased, blank}
-use Rattle.model.specs.Calls.{down}
-use Rattle.model.specs.Memory.{Memory, Code, Meant, Right, fitsDone, Halfway, comesTo}
-use Rattle.model.specs.Right.{RightBy, RunsRight, Darkens}
+use Rattle.model.specs.Calls.{down, heard}
+use Rattle.model.specs.Memory.{Memory, Code, Meant, Right}
+use Rattle.model.specs.Right.{RightBy, RunsRight}
 use Rattle.model.specs.Promise.{DarkOnce}
 use Rattle.model.proofs.Runs.{right-is-right}
 

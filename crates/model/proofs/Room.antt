@@ -2,21 +2,19 @@
 -- Assumes nothing.
 use mathlib.Core.Path.{_≡_, refl, sym, _∙_, ap, subst}
 use mathlib.Core.Logic.{_⊎_, inl, inr}
-use mathlib.Core.Bool.{Bool, true, false, cond, _&&_, _||_, not}
-use mathlib.Core.List.{List, [], _∷_, _++_, map, List·Memᴰ}
-use Prim.Native.Nat.{ℕ, zero, suc, _+_, _<_, _≤_}
+use mathlib.Core.Bool.{Bool, true, false, cond, _&&_, not}
+use mathlib.Core.List.{List, [], _∷_}
+use Prim.Native.Nat.{ℕ, suc, _+_, _≤_}
 use native.Mathlib.Omega.{arith}
-use native.Mathlib.Nat.{le-trans, le-refl}
-use lib.Dec.{eqb, ltb, leb, T}
-use lib.ListN.{length}
-use Rattle.std.proofs.shelf.Tests.{true≢false, false≢true, and-parts, and-from, and-left, and-right, not-true, not-false, not-from-false, eqb-true, eqb-false, leb-true, le-leb}
-use Rattle.model.specs.State.{Name, Machine, Job, Phase, Waiting, Told, Ready, Ending, Task, State, isWaiting, isReady, isEnding, isTask, isJob, isMachine, ofJob, onMachine, phased, placed, withTasks, cpuOf, memOf}
-use Rattle.model.specs.Lists.{some, every, keep, find, change, same}
-use Rattle.model.specs.Settle.{here, present, takes, left, best, place, placeAll, settle}
-use Rattle.model.specs.Promise.{Good, WaitsForRoom}
-use Rattle.model.proofs.Lists.{to-true, from-true, clash, bool, In, in-from, some-at, some-from, in-keep, keep-in, keep-yes, keep-no, Pass, done, gone, goes, pass-from}
-use Rattle.model.proofs.Tasks.{Rising, rising-over, Places, Put, Never, Queue, queue-next, queue-of, places-pass, told-not-waiting}
-use Rattle.model.proofs.Settles.{Tidy, unplaced, tidy-unplaced, unplaced-alike, settle-pass, Fine, fine-from}
+use lib.Dec.{eqb, ltb, leb}
+use Rattle.std.proofs.shelf.Tests.{and-parts, and-from, and-left, not-true, eqb-true, eqb-false, leb-true, le-leb}
+use Rattle.model.specs.State.{Machine, Task, State, isWaiting, isTask, ofJob, onMachine, placed, cpuOf, memOf}
+use Rattle.model.specs.Lists.{some, every, keep, change}
+use Rattle.model.specs.Settle.{here, present, takes, left, best, place, placeAll, unplaced}
+use Rattle.model.specs.Promise.{WaitsForRoom}
+use Rattle.model.proofs.Lists.{to-true, clash, In, in-from, some-from, some-at, keep-no, in-keep, keep-in, Pass, done, gone, goes, pass-from}
+use Rattle.model.proofs.Tasks.{Rising, rising-over, Put, Never, Queue, queue-next, queue-of, places-pass, told-not-waiting}
+use Rattle.model.proofs.Settles.{tidy-unplaced, unplaced-alike, settle-pass, Fine, fine-from}
 
 -- WEIGHTS
 

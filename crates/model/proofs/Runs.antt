@@ -1,9 +1,9 @@
 -- Of every run: what a right code does is what may happen.
 -- Assumes nothing.
-use mathlib.Core.Path.{_≡_, refl, sym, subst}
+use mathlib.Core.Path.{_≡_, sym, subst}
 use mathlib.Core.Logic.{_⊎_, inl, inr}
-use mathlib.Core.List.{List, [], _∷_}
-use Rattle.model.specs.Memory.{Memory, blankMemory, comesTo, leaves, Halfway, Code, Meant, Right, Happens, answered, cutIn, cutElse, Stand, asleep, awake, Run, MayHappen, RightIsRight}
+use mathlib.Core.List.{List, _∷_}
+use Rattle.model.specs.Memory.{Memory, Code, Meant, Right, Happens, cutIn, Stand, asleep, awake, Run, MayHappen, RightIsRight}
 
 module _ (C R : Type 0) (j : Meant C R) (e : Code C R) (r : Right j e) (twice : (s : j .State) → j .dark (j .dark s) ≡ j .dark s) (first : j .dark (j .start) ≡ j .start) where
   abbrev Holds : List (Happens C R) → Stand (e .Mind) → Type 0

@@ -1,21 +1,19 @@
 -- A pass keeps tasks by rising numbers, and the ready ones that are to stay.
 -- Assumes nothing.
-use mathlib.Core.Path.{_≡_, refl, sym, _∙_, ap, subst}
+use mathlib.Core.Path.{_≡_, refl, sym, _∙_, ap}
 use mathlib.Core.Logic.{_⊎_, inl, inr}
-use mathlib.Core.Bool.{Bool, true, false, cond, _&&_, _||_, not}
-use mathlib.Core.List.{List, [], _∷_, _++_, map, List·Memᴰ}
-use Prim.Native.Nat.{ℕ, zero, suc, _+_, _<_, _≤_}
+use mathlib.Core.Bool.{true, not}
+use mathlib.Core.List.{List, [], _∷_}
+use Prim.Native.Nat.{_+_, _<_}
 use native.Mathlib.Omega.{arith}
-use native.Mathlib.Nat.{le-trans, le-refl}
-use lib.Dec.{eqb, ltb, leb, T}
-use lib.ListN.{length}
-use Rattle.std.proofs.shelf.Tests.{true≢false, false≢true, and-parts, and-from, and-left, and-right, not-true, ltb-true, lt-ltb, leb-true, le-leb}
-use Rattle.model.specs.State.{Name, Machine, Job, Phase, Waiting, Told, Ready, Ending, Task, State, isWaiting, isReady, isEnding, isTask, isJob, isMachine, ofJob, phased, placed, withTasks}
-use Rattle.model.specs.Lists.{some, every, keep, find, change, same}
-use Rattle.model.specs.Settle.{mine, readyOnes, ended, fresh, forJob, forJobs, orphansEnd, placeAll, settle}
-use Rattle.model.specs.Promise.{onceJobs, onceMachines, risingTasks, Good, LeastStay}
-use Rattle.model.proofs.Lists.{to-true, from-true, clash, bool, In, in-from, in-end, every-at, every-from, some-from, some-not, not-some, keep-keep, keep-end, Pass, done, gone, goes, pass-same, pass-from, pass-up, pass-down, pass-weaken, change-down, bump, Once, not-to-false}
-use Rattle.model.proofs.Tasks.{same-eq, same-sym, same-refl, eq-same, Rising, rising-from, rising-to, rising-pass, rising-end, waiting-not-ready, jobless, Ends, orphans-pass, ended-pass, mayGrow, more, MayEnd, step-is, steps-are, Put, put-id, Never, places-pass, queue-of}
+use lib.Dec.{eqb, ltb}
+use Rattle.std.proofs.shelf.Tests.{and-parts, and-from, not-true, ltb-true, lt-ltb}
+use Rattle.model.specs.State.{Machine, Job, Task, State, isJob, isMachine, withTasks}
+use Rattle.model.specs.Lists.{some, same}
+use Rattle.model.specs.Settle.{ended, fresh, forJob, settle, more, unplaced}
+use Rattle.model.specs.Promise.{onceJobs, onceMachines, Good}
+use Rattle.model.proofs.Lists.{to-true, from-true, clash, In, in-end, every-at, every-from, some-not, not-some, Pass, pass-from, Once}
+use Rattle.model.proofs.Tasks.{same-sym, Rising, rising-from, rising-to, rising-pass, rising-end, jobless, Ends, orphans-pass, ended-pass, MayEnd, step-is, steps-are, Put, put-id, Never, places-pass, queue-of}
 
 abbrev pub Tidy : State → Type 0
 Tidy s = Rising 0 (s .tasks) × ((t : Task) → In t (s .tasks) → t .id < s .nextId)
@@ -53,10 +51,6 @@ tidy-step j s h = step-is Tidy j s (tidy-ended j s h) (λ xs m g. tidy-more j (w
 pub orphan-id : (js : List Job) (x y : Task) → (y ≡ x) ⊎ ((jobless js x ≡ true) × Ends x y) → y .id ≡ x .id
 orphan-id js x y (inl e) = ap (λ (z : Task). z .id) e
 orphan-id js x y (inr h) = ap (λ (z : Task). z .id) (h .1 .1)
-
--- what settling has before it places
-abbrev pub unplaced : State → State
-unplaced s = forJobs (s .jobs) (withTasks (orphansEnd (s .jobs) (s .tasks)) s)
 
 pub tidy-unplaced : (s : State) → Tidy s → Tidy (unplaced s)
 tidy-unplaced s h = steps-are Tidy (s .jobs) _ (λ j i u k. tidy-step j u k) (tidy-pass _ _ (orphan-id (s .jobs)) s (orphans-pass (s .jobs) (s .tasks)) h)

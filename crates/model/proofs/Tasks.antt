@@ -2,19 +2,19 @@
 -- Assumes nothing.
 use mathlib.Core.Path.{_≡_, refl, sym, _∙_, ap, subst}
 use mathlib.Core.Logic.{_⊎_, inl, inr}
-use mathlib.Core.Bool.{Bool, true, false, cond, _&&_, _||_, not}
-use mathlib.Core.List.{List, [], _∷_, _++_, map}
-use Prim.Native.Nat.{ℕ, zero, suc, _+_, _<_, _≤_}
+use mathlib.Core.Bool.{Bool, true, false, cond, _&&_, not}
+use mathlib.Core.List.{List, [], _∷_, _++_}
+use Prim.Native.Nat.{ℕ, suc, _<_, _≤_}
 use native.Mathlib.Omega.{arith}
 use native.Mathlib.Nat.{le-trans}
-use lib.Dec.{eqb, ltb, leb, T}
+use lib.Dec.{eqb, ltb, leb}
 use lib.ListN.{length}
-use Rattle.std.proofs.shelf.Tests.{true≢false, false≢true, and-parts, and-from, or-cases, or-left, or-right, or-parts, not-true, not-false, not-from-false, not-from-true, eqb-true, eqb-false, eq-eqb, ne-eqb, ltb-true, ltb-false, lt-ltb, leb-true, le-leb, cond-both}
-use Rattle.model.specs.State.{Name, Machine, Spec, Job, Phase, Waiting, Told, Ready, Ending, Task, State, isWaiting, isReady, isEnding, isTask, isJob, isMachine, ofJob, onMachine, phased, placed, withTasks, cpuOf, memOf}
-use Rattle.model.specs.Lists.{some, every, keep, find, change, none, same, lastOf, headOr}
-use Rattle.model.specs.Settle.{mine, alive, newOnes, oldOnes, readyOnes, present, sure, toEnd, ended, fresh, forJob, forJobs, orphansEnd, here, takes, best, place, placeAll, settle}
+use Rattle.std.proofs.shelf.Tests.{false≢true, and-parts, and-from, not-true, not-false, eqb-true, eq-eqb, ltb-true, leb-true, le-leb, cond-both}
+use Rattle.model.specs.State.{Name, Machine, Job, Phase, Waiting, Told, Ready, Ending, Task, State, isWaiting, isReady, isEnding, isTask, ofJob, phased, placed, withTasks}
+use Rattle.model.specs.Lists.{some, keep, change, none, same, lastOf}
+use Rattle.model.specs.Settle.{mine, alive, newOnes, oldOnes, readyOnes, sure, toEnd, ended, forJob, forJobs, orphansEnd, takes, best, place, placeAll, mayGrow, more}
 use Rattle.model.specs.Promise.{risingTasks}
-use Rattle.model.proofs.Lists.{to-true, from-true, clash, bool, In, in-end, Pass, done, gone, goes, pass-same, pass-keep, pass-change, pass-then, pass-from, pass-weaken, in-keep, keep-in, bump}
+use Rattle.model.proofs.Lists.{clash, bool, In, in-keep, last-in, head-in, Pass, done, gone, goes, pass-same, pass-keep, pass-change, pass-then, pass-weaken}
 
 -- NAMES
 
@@ -138,28 +138,10 @@ module _ (n : ℕ) (ts : List Task) (r : Rising n ts) (t : Task) (i : In t ts) w
 
 -- ONE STEP FOR A JOB
 
-abbrev pub mayGrow : Job → State → Bool
-mayGrow j s = ltb (length (newOnes j (alive (mine j (s .tasks))))) (j .count) && ltb (length (mine j (s .tasks))) (j .most) && ltb (length (s .tasks)) 2048 && ltb (s .nextId) 4611686018427387904
-
-abbrev pub more : Job → State → State
-more j s = record { now = s .now; nextId = s .nextId + 1; machines = s .machines; jobs = s .jobs; tasks = s .tasks ++ (fresh j (s .nextId) ∷ []) }
-
 -- one that may end
 abbrev pub MayEnd : State → Job → List Task → Type 0
 MayEnd s j [] = Unit {0}
 MayEnd s j (t ∷ ts) = In t (s .tasks) × (ofJob (j .name) t ≡ true) × ((isReady (t .phase) ≡ false) ⊎ (j .least < length (readyOnes (mine j (s .tasks)))))
-
-pub last-in : {A : Type 0} (xs : List A) (x : A) → In x (lastOf xs) → In x xs
-unfolding lastOf
-last-in [] x h = h
-last-in (y ∷ []) x h = h
-last-in (y ∷ z ∷ zs) x h = inr (last-in (z ∷ zs) x h)
-
-pub head-in : {A : Type 0} (xs ys : List A) (x : A) → In x (headOr xs ys) → In x xs ⊎ In x ys
-unfolding headOr
-head-in [] ys x h = inr h
-head-in (y ∷ ys) zs x (inl e) = inl (inl e)
-head-in (y ∷ ys) zs x (inr h) = absurd h
 
 pub may-end : (s : State) (j : Job) (ts : List Task) → ((t : Task) → In t ts → In t (mine j (s .tasks))) → MayEnd s j (toEnd s j (mine j (s .tasks)) ts)
 may-end s j ts sub = pick (toEnd s j (mine j (s .tasks)) ts) (λ x i. known x (head-in _ _ x i))

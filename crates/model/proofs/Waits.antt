@@ -1,7 +1,7 @@
 -- At every moment of every run no task waits that a machine would take, also after the herd went dark.
 -- Assumes nothing.
 use mathlib.Core.Path.{_≡_, refl, _∙_, ap, subst}
-use mathlib.Core.Bool.{Bool, true, _&&_, not}
+use mathlib.Core.Bool.{true, _&&_, not}
 use mathlib.Core.List.{List, List·Memᴰ}
 use Prim.Native.Nat.{ℕ, _+_}
 use lib.Dec.{eqb, leb}
@@ -9,9 +9,9 @@ use Rattle.std.proofs.shelf.Tests.{and-parts, not-true, eqb-false}
 use Rattle.model.specs.Lists.{some, every}
 use Rattle.model.specs.State.{Machine, Task, State, ofJob, cpuOf, memOf}
 use Rattle.model.specs.Settle.{settle, here, present}
-use Rattle.model.specs.Calls.{Call, Out, does, down}
+use Rattle.model.specs.Calls.{Call, Out, does, down, heard}
 use Rattle.model.specs.Always.{NoneWaits, NeverWaits}
-use Rattle.model.proofs.Lists.{to-true, In, in-from, pass-from, pass-map}
+use Rattle.model.proofs.Lists.{to-true, in-from, pass-map, pass-from}
 use Rattle.model.proofs.Settles.{unplaced-alike, Fine, fine-to}
 use Rattle.model.proofs.Acts.{does-is, fine-pre}
 use Rattle.model.proofs.Room.{waits-for-room}

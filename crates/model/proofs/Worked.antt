@@ -1,6 +1,6 @@
 -- The worked cases, by computation.
 -- Assumes nothing.
-use mathlib.Core.Path.{_≡_, refl}
+use mathlib.Core.Path.{refl}
 use Rattle.model.specs.Lists.{some, every, keep, find, change, none, same, lastOf, headOr}
 use Rattle.model.specs.State.{cpuOf, memOf}
 use Rattle.model.specs.Settle.{ended, forJobs, orphansEnd, best, place, placeAll}

@@ -3,26 +3,24 @@
 use mathlib.Core.Path.{_≡_, refl, sym, _∙_, ap, subst}
 use mathlib.Core.Logic.{_⊎_, inl, inr}
 use mathlib.Core.Bool.{Bool, true, false, cond, _&&_, _||_, not}
-use mathlib.Core.List.{List, [], _∷_, _++_, map, List·Memᴰ}
-use Prim.Native.Nat.{ℕ, zero, suc, _+_, _<_, _≤_}
+use mathlib.Core.List.{List, [], _∷_, _++_}
+use Prim.Native.Nat.{ℕ, _+_, _<_, _≤_}
 use native.Mathlib.Omega.{arith}
-use native.Mathlib.Nat.{le-trans, le-refl}
 use lib.Dec.{eqb, ltb, leb, T}
-use lib.ListN.{length}
-use Rattle.std.proofs.shelf.Tests.{true≢false, false≢true, and-parts, and-from, and-left, and-right, and-cases, or-parts, or-cases, or-from, not-true, not-false, not-from-false, ltb-true, ltb-false, leb-true, leb-false, le-leb, eqb-true, eq-eqb, eqb-false, ne-eqb, cond-both}
-use Rattle.model.specs.State.{Name, Machine, Spec, Job, Phase, Task, State, blank, isWaiting, isEnding, isMachine, onMachine, withTasks, withMachines, withJobs, cpuOf, memOf}
-use Rattle.model.specs.Lists.{some, every, keep, find, change, none, same}
+use Rattle.std.proofs.shelf.Tests.{false≢true, and-cases, or-parts, or-cases, ltb-false, leb-false, eqb-true, eq-eqb, eqb-false, ne-eqb, cond-both}
+use Rattle.model.specs.State.{Machine, Task, State, isEnding, isMachine, onMachine}
+use Rattle.model.specs.Lists.{some, keep, find}
 use Rattle.model.specs.Settle.{here, settle}
-use Rattle.model.specs.Calls.{Seen, Call, Forget, Report, Order, Reply, No, Yes, Run, Lines, Out, no, orders, answersReport, seenAs, heardFrom, does, down}
+use Rattle.model.specs.Calls.{Seen, Forget, Report, Order, Reply, Run, Out, orders, seenAs, heardFrom, does, heard}
 use Rattle.model.specs.World.{Agent, Word, Up, Back, World, start, put, isOrder, isSeen, mayRun, isReadyIn, obeys, Step, Reach}
 use Rattle.model.specs.Promise.{ran, seenIn, NeverTooMuch, NeverTooMuchInAnyLife, Anchored, NeverTwice}
-use Rattle.model.proofs.Lists.{to-true, from-true, clash, bool, In, in-from, in-to, in-keep, keep-in, some-from, some-at, some-not, not-to-false, Pass, done, gone, goes, pass-same, pass-from, pass-to, pass-keep, Once, once-pass}
+use Rattle.model.proofs.Lists.{to-true, from-true, not-to-false, clash, bool, In, in-from, in-to, some-from, some-at, some-not, find-in, in-keep, keep-in, change-hit, Pass, gone, goes, pass-same, pass-keep, pass-from, pass-to, Once, once-pass}
 use Rattle.model.proofs.Tasks.{rising-one}
-use Rattle.model.proofs.Settles.{Tidy, unplaced-alike, Fine}
-use Rattle.model.proofs.Room.{weigh, cpu-weigh, mem-weigh}
-use Rattle.model.proofs.Acts.{heard, HeardGone, HeardAs, heard-pass, Must, does-is, fine-heard}
+use Rattle.model.proofs.Settles.{unplaced-alike, Fine}
+use Rattle.model.proofs.Room.{cpu-weigh, mem-weigh}
+use Rattle.model.proofs.Acts.{HeardGone, HeardAs, heard-pass, does-is, fine-heard}
 use Rattle.model.proofs.Hold.{OnIt, stay-on, once-machine, on-settle}
-use Rattle.model.proofs.Keeps.{Sound, sound-does, sound-down, sound-settle, Keeps, keeps-refl, keeps-settle, keeps-does, keeps-down, keeps-forget, keeps-heard, find-in, change-hit, heard-stay, on-machine}
+use Rattle.model.proofs.Keeps.{Sound, sound-does, sound-down, Keeps, keeps-settle, keeps-does, keeps-down, keeps-forget, keeps-heard, heard-stay, on-machine}
 
 -- THE INVARIANT
 
