@@ -1,22 +1,20 @@
--- Whatever the herd does, a task's number, likeness and job stay, and numbers are given once; a call's own test may be used of what it leaves.
+-- Whatever is done to the herd, a task keeps its number, spec, job and version. What calls and the dark keep of a state holds in every world.
 -- Assumes nothing.
 use mathlib.Core.Path.{_≡_, refl, ap}
 use mathlib.Core.Logic.{_⊎_, inl, inr}
-use mathlib.Core.Bool.{Bool, true, false, _&&_, _||_, not}
+use mathlib.Core.Bool.{Bool, true}
 use mathlib.Core.List.{List, [], _∷_, map}
-use Prim.Native.Nat.{ℕ, _+_}
-use lib.Dec.{eqb, ltb, leb}
-use lib.ListN.{length}
-use Rattle.std.proofs.shelf.Tests.{not-false, cond-both}
-use Rattle.model.specs.State.{Machine, Job, Told, Task, State, blank, isReady, isJob, isMachine, phased, withTasks}
-use Rattle.model.specs.Lists.{every, keep, find, none}
+use Prim.Native.Nat.{ℕ}
+use Rattle.std.proofs.shelf.Tests.{cond-both}
+use Rattle.model.specs.State.{Machine, Job, Told, Task, State, blank, isReady, phased, withTasks}
+use Rattle.model.specs.Lists.{keep}
 use Rattle.model.specs.Settle.{ended, orphansEnd, settle, mayGrow, more, unplaced}
-use Rattle.model.specs.Calls.{Seen, Call, SetJob, EndJob, AddMachine, Close, Reopen, Forget, Report, Tick, Show, Out, no, jobOk, small, allMost, others, reports, heardAll, unsure, acts, isTick, does, down}
+use Rattle.model.specs.Calls.{Seen, Call, Forget, Report, reports, heardAll, unsure, does, down}
 use Rattle.model.specs.World.{World, Step, Reach}
-use Rattle.model.proofs.Lists.{In, none-true, Pass, pass-same, pass-keep, pass-map, pass-weaken}
+use Rattle.model.proofs.Lists.{In, Pass, pass-same, pass-keep, pass-map, pass-weaken}
 use Rattle.model.proofs.Tasks.{jobless, Ends, orphans-pass, ended-pass, MayEnd, step-is, steps-are, Put}
 use Rattle.model.proofs.Settles.{Tidy, tidy-pass, tidy-step, orphan-id, EndsOne, settle-pass}
-use Rattle.model.proofs.Acts.{Must, Pre, sets-is, reports-is, HeardAs, heard-pass}
+use Rattle.model.proofs.Acts.{HeardAs, heard-pass}
 use Rattle.model.proofs.Keeps.{Sound}
 use Rattle.model.proofs.Worlds.{inv-reach}
 
@@ -87,59 +85,6 @@ settle-keeps Q p s g h q = p (unplaced s) _ (pass-weaken (λ x d. tt) put-same (
         steps-are P (s .jobs) (withTasks (orphansEnd (s .jobs) (s .tasks)) s)
         (λ j i u k. (tidy-step j u (k .0), step-is Q j u (λ xs m. ends j u k xs m .1) (λ xs m z. let e = ends j u k xs m in g j i (withTasks (ended xs (u .tasks)) u) (e .0) z (e .1))))
         (tidy-pass _ _ (orphan-id (s .jobs)) s (orphans-pass (s .jobs) (s .tasks)) h, p s _ (pass-weaken (λ x d. tt) (orphan-same (s .jobs)) (orphans-pass (s .jobs) (s .tasks))) q)
-
--- CALLS, WITH WHAT THEY TEST
-
-abbrev pub Tested : Call → State → Type 0
-Tested (SetJob n a c l m) s = jobOk n a c l m ≡ true
-Tested (EndJob n) s = Unit {0}
-Tested (AddMachine k c m tags) s = (ltb 65535 k || ltb 1000000000 c || ltb 1000000000 m || ltb 16 (length tags) || not (every small tags)) ≡ false
-Tested (Close k) s = Unit {0}
-Tested (Reopen k) s = Unit {0}
-Tested (Forget k) s = Unit {0}
-Tested (Report k l n xs) s = (ltb 4611686018427387904 l || ltb 4611686018427387904 n || ltb 2048 (length xs)) ≡ false
-Tested (Tick t) s = Unit {0}
-Tested (Show n) s = Unit {0}
-
-pub acts-when : (P : Out → Type 0) (c : Call) (s : State) → ((k : ℕ) → P (no k s)) → (Tested c s → Must P c s) → P (acts c s)
-unfolding acts
-acts-when P (SetJob n a c l m) s r h = cond-both (jobOk n a c l m) _ _ P (λ g. cond-both (ltb 2048 (m + allMost (others n (s .jobs)))) _ _ P (λ _. r 8) (λ _. sets-is P n a c l m s r (h g) (find (isJob n) (s .jobs)) refl)) (λ _. r 1)
-acts-when P (EndJob n) s r h = cond-both (none (find (isJob n) (s .jobs))) _ _ P (λ _. r 2) (λ _. h tt)
-acts-when P (AddMachine k c m tags) s r h =
-    cond-both (not (none (find (isMachine k) (s .machines)))) _ _ P (λ _. r 3) (λ e. cond-both (ltb 65535 k || ltb 1000000000 c || ltb 1000000000 m || ltb 16 (length tags) || not (every small tags)) _ _ P (λ _. r 1) (λ g. cond-both (leb 256 (length (s .machines))) _ _ P (λ _. r 8) (λ _. h g (none-true _ (not-false _ e)))))
-acts-when P (Close k) s r h = cond-both (none (find (isMachine k) (s .machines))) _ _ P (λ _. r 2) (λ _. h tt)
-acts-when P (Reopen k) s r h = cond-both (none (find (isMachine k) (s .machines))) _ _ P (λ _. r 2) (λ _. h tt)
-acts-when P (Forget k) s r h = cond-both (none (find (isMachine k) (s .machines))) _ _ P (λ _. r 2) (λ _. h tt)
-acts-when P (Report k l n xs) s r h = cond-both (ltb 4611686018427387904 l || ltb 4611686018427387904 n || ltb 2048 (length xs)) _ _ P (λ _. r 1) (λ g. reports-is P k l n xs s r (h g) (find (isMachine k) (s .machines)) refl)
-acts-when P (Tick t) s r h = cond-both (eqb t 0 || ltb 4611686018427387904 t) _ _ P (λ _. r 1) (λ _. h tt)
-acts-when P (Show n) s r h = h tt
-
-pub does-when : (P : Out → Type 0) (c : Call) (s : State) → ((k : ℕ) → P (no k s)) → (Tested c s → Must P c s) → P (does c s)
-does-when P c s r h = cond-both (eqb (s .now) 0 && not (isTick c)) (no 10 s) (acts c s) P (λ _. r 10) (λ _. acts-when P c s r h)
-
--- what a pass leaves of the state before it, and what stays if nothing was done
-pub must-from : (Q W : State → Type 0) → ((u : State) → Q u → W (settle u)) → (c : Call) (s : State) → W s → Pre Q c s → Must (λ (o : Out). W (o .state)) c s
-must-from Q W h (SetJob n a c l m) s q p = (λ e. h _ (p .0 e), λ j js e. h _ (p .1 j js e))
-must-from Q W h (EndJob n) s q p = h _ p
-must-from Q W h (AddMachine k c m tags) s q p = λ e. h _ (p e)
-must-from Q W h (Close k) s q p = h _ p
-must-from Q W h (Reopen k) s q p = h _ p
-must-from Q W h (Forget k) s q p = h _ p
-must-from Q W h (Report k l n xs) s q p = λ m ms e g. h _ (p m ms e g)
-must-from Q W h (Tick t) s q p = h _ p
-must-from Q W h (Show n) s q p = q
-
--- both before the pass
-pub pre-both : (Q W : State → Type 0) (c : Call) (s : State) → Pre Q c s → Pre W c s → Pre (λ (u : State). Q u × W u) c s
-pre-both Q W (SetJob n a c l m) s p q = (λ e. (p .0 e, q .0 e), λ j js e. (p .1 j js e, q .1 j js e))
-pre-both Q W (EndJob n) s p q = (p, q)
-pre-both Q W (AddMachine k c m tags) s p q = λ e. (p e, q e)
-pre-both Q W (Close k) s p q = (p, q)
-pre-both Q W (Reopen k) s p q = (p, q)
-pre-both Q W (Forget k) s p q = (p, q)
-pre-both Q W (Report k l n xs) s p q = λ m ms e g. (p m ms e g, q m ms e g)
-pre-both Q W (Tick t) s p q = (p, q)
-pre-both Q W (Show n) s p q = tt
 
 -- IN EVERY WORLD
 

@@ -14,8 +14,8 @@ use Rattle.model.specs.Always.{Later, SameNumber, NeverBack}
 use Rattle.model.proofs.Lists.{In, in-from, in-to, in-end, Pass, pass-from}
 use Rattle.model.proofs.Tasks.{rising-one}
 use Rattle.model.proofs.Settles.{Fine}
-use Rattle.model.proofs.Acts.{Pre, does-keeps, fine-pre, fine-settle}
-use Rattle.model.proofs.Kin.{Same, Any, heard-kin, keep-kin, timed-kin, down-kin, settle-keeps, pre-both, step-herd}
+use Rattle.model.proofs.Acts.{pre-both, Pre, does-keeps, fine-pre, fine-settle}
+use Rattle.model.proofs.Kin.{Same, Any, heard-kin, keep-kin, timed-kin, down-kin, settle-keeps, step-herd}
 use Rattle.model.proofs.Worlds.{Inv, inv-step, inv-reach}
 
 -- A NUMBER THAT WAS GIVEN: it is below the next, and whoever is there by it is as P says

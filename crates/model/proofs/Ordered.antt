@@ -2,31 +2,27 @@
 -- Assumes nothing.
 use mathlib.Core.Path.{_≡_, refl, sym, _∙_, ap, subst}
 use mathlib.Core.Logic.{inl, inr}
-use mathlib.Core.Bool.{Bool, true, false, cond, not}
+use mathlib.Core.Bool.{Bool, true, false, cond}
 use mathlib.Core.List.{List, [], _∷_, List·Memᴰ}
 use Prim.Native.Nat.{ℕ, _+_, _<_, _≤_}
 use native.Mathlib.Omega.{arith}
 use native.Mathlib.Nat.{le-trans}
-use lib.Dec.{eqb}
-use Rattle.std.proofs.shelf.Tests.{not-from-false, not-from-true, eqb-true, eq-eqb, eqb-false, ne-eqb, cond-both}
+use Rattle.std.proofs.shelf.Tests.{eqb-true}
 use Rattle.model.specs.Lists.{keep, find}
 use Rattle.model.specs.State.{Spec, Task, State, isEnding, onMachine}
 use Rattle.model.specs.Settle.{here, settle}
 use Rattle.model.specs.Calls.{Seen, Call, Forget, Report, Order, Run, Out, orders, heard, does}
 use Rattle.model.specs.World.{Agent, Back, World, put, isOrder, Step, Reach}
 use Rattle.model.specs.Always.{asked, askedBy, RunsWithin}
-use Rattle.model.proofs.Lists.{In, in-from, in-to, find-in, keep-no, in-keep, keep-in, Once}
+use Rattle.model.proofs.Lists.{never, In, in-from, in-to, find-in, in-keep, keep-in}
 use Rattle.model.proofs.Tasks.{rising-one}
 use Rattle.model.proofs.Settles.{Fine}
-use Rattle.model.proofs.Room.{weigh, weigh-cons}
+use Rattle.model.proofs.Room.{weigh, weighSeen, seen-within}
 use Rattle.model.proofs.Acts.{does-is, fine-settle, fine-heard}
 use Rattle.model.proofs.Hold.{cpu′, mem′}
 use Rattle.model.proofs.Keeps.{Sound}
 use Rattle.model.proofs.Worlds.{Agrees, inv-reach, put-is}
 use Rattle.model.proofs.Numbers.{Given, given-does, given-down}
-
-never : {C : Type 0} → _≡_ {A = ℕ} 0 1 → C
-never z = absurd (omega arith)
 
 -- AN ORDER IS OF A TASK BY THAT NUMBER, AT ITS SPEC, OR OF ONE THAT IS GONE
 
@@ -99,41 +95,6 @@ known-reach Reach.begin = record { agents = λ i o j. absurd j; backs = λ i l n
 known-reach (Reach.then r s) = known-step (inv-reach r .sound) (known-reach r) s
 
 -- SUMS
-
-weigh-less : (f : Task → ℕ) (p : Task → Bool) (ts : List Task) → weigh f (keep p ts) ≤ weigh f ts
-unfolding weigh keep
-weigh-less f p [] = omega arith
-weigh-less f p (t ∷ ts) = let h = weigh-less f p ts in cond-both (p t) (t ∷ keep p ts) (keep p ts) (λ (us : List Task). weigh f us ≤ f t + weigh f ts) (λ _. omega arith) (λ _. omega arith)
-
-abbrev pub Other : Task → Task → Bool
-Other t u = not (eqb (t .id) (u .id))
-
--- a sum is at least one of its tasks and the sum of the others
-pub weigh-without : (f : Task → ℕ) (t : Task) (ts : List Task) → In t ts → f t + weigh f (keep (Other t) ts) ≤ weigh f ts
-unfolding weigh
-weigh-without f t [] i = absurd i
-weigh-without f t (u ∷ us) (inl e) =
-    let h = weigh-less f (Other t) us in let q = keep-no (Other t) u us (not-from-true _ (eq-eqb (t .id) (u .id) (ap (λ (x : Task). x .id) e))) in
-    let a : f t ≡ f u = ap f e in let b : weigh f (keep (Other t) (u ∷ us)) ≡ weigh f (keep (Other t) us) = ap (weigh f) q in omega arith
-weigh-without f t (u ∷ us) (inr i) =
-    let h = weigh-without f t us i in let q = weigh-cons f (Other t) u us in
-    let a : cond (Other t u) (f u) 0 ≤ f u = cond-both (Other t u) (f u) 0 (λ (n : ℕ). n ≤ f u) (λ _. omega arith) (λ _. omega arith) in omega arith
-
--- a sum over what runs
-unfoldable pub weighSeen : (Seen → ℕ) → List Seen → ℕ
-weighSeen g [] = 0
-weighSeen g (x ∷ xs) = g x + weighSeen g xs
-
--- different ones that run, each a task of a list with its own number, weigh no more than the list
-pub seen-within : (g : Seen → ℕ) (f : Task → ℕ) (xs : List Seen) (ts : List Task) → Once (λ (x y : Seen). eqb (x .id) (y .id)) xs → ((x : Seen) → In x xs → (t : Task) × In t ts × (t .id ≡ x .id) × (g x ≤ f t)) → weighSeen g xs ≤ weigh f ts
-unfolding weighSeen
-seen-within g f [] ts o h = omega arith
-seen-within g f (x ∷ xs) ts o h =
-    let w = h x (inl refl) in
-    let a = weigh-without f (w .0) ts (w .1) in
-    let b = seen-within g f xs (keep (Other (w .0)) ts) (o .1) (λ y j. let v = h y (inr j) in (v .0, keep-in (Other (w .0)) ts (v .0) (v .1) (not-from-false _ (ne-eqb (w .0 .id) (v .0 .id) (λ e. eqb-false (x .id) (y .id) (o .0 y j) (sym (w .2) ∙ (e ∙ v .2))))), v .2, v .3)) in
-    let d : g x ≤ f (w .0) = w .3 in
-    omega arith
 
 asked-is : (need : Spec → ℕ) (os : List Order) (xs : List Seen) → askedBy need os xs ≡ weighSeen (λ (x : Seen). asked need (find (isOrder (x .id)) os)) xs
 unfolding askedBy weighSeen

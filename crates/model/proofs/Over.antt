@@ -18,11 +18,10 @@ use Rattle.model.specs.World.{World, Step, Reach}
 use Rattle.model.specs.Promise.{ran}
 use Rattle.model.specs.Always.{SparesIn, Unlowered, isOf, running, differ, NeverOver}
 use Rattle.model.proofs.Lists.{to-true, In, in-from, in-append, some-at, some-not, in-keep, keep-in, pass-keep, Once, once-pass, once-append}
-use Rattle.model.proofs.Room.{weigh}
+use Rattle.model.proofs.Room.{weigh, weighSeen, seen-within}
 use Rattle.model.proofs.Keeps.{Sound}
 use Rattle.model.proofs.Worlds.{Inv, inv-reach, one-place}
 use Rattle.model.proofs.Most.{FitIn, fit-does, fit-down}
-use Rattle.model.proofs.Ordered.{weighSeen, seen-within}
 
 fit-reach : {w : World} (n : Name) (r : Reach w) → Unlowered n r → FitIn n (w .herd)
 fit-reach n Reach.begin u = λ j i. absurd i

@@ -5,19 +5,16 @@ use mathlib.Core.Logic.{_⊎_, inl, inr}
 use mathlib.Core.Bool.{cond}
 use mathlib.Core.List.{List, [], _∷_, _++_}
 use Prim.Native.Nat.{ℕ}
-use native.Mathlib.Omega.{arith}
 use Rattle.model.specs.Lists.{find, change, none}
 use Rattle.model.specs.State.{Name, Spec, Job, State, isJob, withJobs}
 use Rattle.model.specs.Settle.{settle}
 use Rattle.model.specs.Calls.{Call, SetJob, EndJob, AddMachine, Close, Reopen, Forget, Report, Tick, Show, No, Out, newJob, resetJob, does}
 use Rattle.model.specs.Always.{entered, RefusalKeeps, TakesFew, AlwaysTakesFew}
+use Rattle.model.proofs.Lists.{never}
 use Rattle.model.proofs.Settles.{Fine}
 use Rattle.model.proofs.Acts.{Must, does-is, fine-pre}
 use Rattle.model.proofs.Least.{fine-takes-few}
 use Rattle.model.proofs.Worlds.{inv-reach}
-
-never : {C : Type 0} → _≡_ {A = ℕ} 0 1 → C
-never z = absurd (omega arith)
 
 abbrev Refused : ℕ → State → Out → Type 0
 Refused k s o = o .reply ≡ No k → o .state ≡ s

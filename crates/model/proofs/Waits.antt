@@ -13,9 +13,9 @@ use Rattle.model.specs.Calls.{Call, Out, does, down, heard}
 use Rattle.model.specs.Always.{NoneWaits, NeverWaits}
 use Rattle.model.proofs.Lists.{to-true, in-from, pass-map, pass-from}
 use Rattle.model.proofs.Settles.{unplaced-alike, Fine, fine-to}
-use Rattle.model.proofs.Acts.{does-is, fine-pre}
+use Rattle.model.proofs.Acts.{must-from, does-is, fine-pre}
 use Rattle.model.proofs.Room.{waits-for-room}
-use Rattle.model.proofs.Kin.{must-from, reach-herd}
+use Rattle.model.proofs.Kin.{reach-herd}
 
 waits-settle : (u : State) → Fine u → NoneWaits (settle u)
 waits-settle u f t m i w mi h = waits-for-room u t m (fine-to u f) i w (subst (λ (ms : List Machine). List·Memᴰ m ms) (unplaced-alike u .1) mi) h

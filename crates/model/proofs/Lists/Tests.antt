@@ -5,6 +5,8 @@ use mathlib.Core.Logic.{_⊎_, inl, inr}
 use mathlib.Core.Bool.{Bool, true, false, not}
 use lib.Dec.{T}
 use Rattle.std.proofs.shelf.Tests.{true≢false, false≢true}
+use Prim.Native.Nat.{ℕ}
+use native.Mathlib.Omega.{arith}
 
 pub to-true : (b : Bool) → T b → b ≡ true
 to-true true t = refl
@@ -24,3 +26,7 @@ clash b p q = absurd (true≢false (sym p ∙ q))
 pub bool : (b : Bool) → (b ≡ true) ⊎ (b ≡ false)
 bool true = inl refl
 bool false = inr refl
+
+-- two constructors that were said to be equal: cc gives the equation
+pub never : {C : Type 0} → _≡_ {A = ℕ} 0 1 → C
+never z = absurd (omega arith)
