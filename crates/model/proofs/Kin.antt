@@ -26,28 +26,28 @@ Same x y = (y .id ≡ x .id) × (y .spec ≡ x .spec) × (y .job ≡ x .job) × 
 abbrev pub Any : Task → Type 0
 Any x = Unit {0}
 
-pub same-eq : (x y : Task) → y ≡ x → Same x y
-same-eq x y e = (ap (λ (t : Task). t .id) e, ap (λ (t : Task). t .spec) e, ap (λ (t : Task). t .job) e, ap (λ (t : Task). t .version) e)
+pub is-same : (x y : Task) → y ≡ x → Same x y
+is-same x y e = (ap (λ (t : Task). t .id) e, ap (λ (t : Task). t .spec) e, ap (λ (t : Task). t .job) e, ap (λ (t : Task). t .version) e)
 
 orphan-same : (js : List Job) (x y : Task) → (y ≡ x) ⊎ ((jobless js x ≡ true) × Ends x y) → Same x y
-orphan-same js x y (inl e) = same-eq x y e
+orphan-same js x y (inl e) = is-same x y e
 orphan-same js x y (inr h) = let e = h .1 .1 in (ap (λ (t : Task). t .id) e, ap (λ (t : Task). t .spec) e, ap (λ (t : Task). t .job) e, ap (λ (t : Task). t .version) e)
 
 ends-same : (t x y : Task) → EndsOne t x y → Same x y
-ends-same t x y (inl e) = same-eq x y e
+ends-same t x y (inl e) = is-same x y e
 ends-same t x y (inr h) = let e = h .1 .1 in (ap (λ (t : Task). t .id) e, ap (λ (t : Task). t .spec) e, ap (λ (t : Task). t .job) e, ap (λ (t : Task). t .version) e)
 
 put-same : (x y : Task) → Put x y → Same x y
-put-same x y (inl e) = same-eq x y e
+put-same x y (inl e) = is-same x y e
 put-same x y (inr h) = let e = h .3 in (ap (λ (t : Task). t .id) e, ap (λ (t : Task). t .spec) e, ap (λ (t : Task). t .job) e, ap (λ (t : Task). t .version) e)
 
 heard-same : (k l : ℕ) (x y : Task) → HeardAs k l x y → Same x y
-heard-same k l x y (inl h) = same-eq x y (h .1)
+heard-same k l x y (inl h) = is-same x y (h .1)
 heard-same k l x y (inr h) = let e = h .4 in (ap (λ (t : Task). t .id) e, ap (λ (t : Task). t .spec) e, ap (λ (t : Task). t .job) e, ap (λ (t : Task). t .version) e)
 
 pub ended-kin : (j : Job) (s : State) → Tidy s → (xs : List Task) → MayEnd s j xs → Pass Any Same (s .tasks) (ended xs (s .tasks))
 unfolding ended
-ended-kin j s h [] m = pass-same Any Same (s .tasks) (λ x i. same-eq x x refl)
+ended-kin j s h [] m = pass-same Any Same (s .tasks) (λ x i. is-same x x refl)
 ended-kin j s h (t ∷ ts) m = pass-weaken (λ x d. tt) (ends-same t) (ended-pass 0 (s .tasks) (h .0) t (m .0) ts)
 
 pub orphans-kin : (js : List Job) (ts : List Task) → Pass Any Same ts (orphansEnd js ts)
@@ -61,7 +61,7 @@ pub heard-kin : (k l : ℕ) (xs : List Seen) (ts : List Task) → Pass Any Same 
 heard-kin k l xs ts = pass-weaken (λ x d. tt) (heard-same k l) (heard-pass k l xs ts)
 
 pub keep-kin : (f : Task → Bool) (ts : List Task) → Pass Any Same ts (keep f ts)
-keep-kin f ts = pass-keep Any Same f ts (λ x i e. tt) (λ x i e. same-eq x x refl)
+keep-kin f ts = pass-keep Any Same f ts (λ x i e. tt) (λ x i e. is-same x x refl)
 
 pub timed-kin : (now : ℕ) (ms : List Machine) (ts : List Task) → Pass Any Same ts (map (unsure now ms) ts)
 unfolding unsure

@@ -39,9 +39,9 @@ ready-not-waiting p e = elim (bool (isWaiting p)) [ inl w ↦ clash (isReady p) 
 ending-on : isWaiting Ending ≡ false
 ending-on = refl
 
-ended-one : (t : Task) (more′ ts : List Task) → isWaiting (t .phase) ≡ false → ended (t ∷ more′) ts ≡ change (isTask (t .id)) (phased Ending) ts
+ended-one : (t : Task) (others ts : List Task) → isWaiting (t .phase) ≡ false → ended (t ∷ others) ts ≡ change (isTask (t .id)) (phased Ending) ts
 unfolding ended
-ended-one t more′ ts e = rw e
+ended-one t others ts e = rw e
 
 waiting-unready : isReady Waiting ≡ false
 waiting-unready = refl
@@ -95,11 +95,11 @@ module _ (s : State) (fine : Fine s) (j : Job) (i : In j (s .jobs)) where
 
   least-first : readies j s ≤ readies j first
   unfolding first
-  least-first = pass-up _ _ (readyOf j) (λ x d. not-ready j x (waiting-not-ready (x .phase) (d .1))) kept′ (orphans-pass (s .jobs) (s .tasks))
+  least-first = pass-up _ _ (readyOf j) (λ x d. not-ready j x (waiting-not-ready (x .phase) (d .1))) goes-on (orphans-pass (s .jobs) (s .tasks))
     where
-      kept′ : (x y : Task) → (y ≡ x) ⊎ ((jobless (s .jobs) x ≡ true) × Ends x y) → readyOf j x ≡ true → readyOf j y ≡ true
-      kept′ x y (inl p) q = ap (readyOf j) p ∙ q
-      kept′ x y (inr p) q = absurd (wanted x (and-parts (ofJob (j .name) x) (isReady (x .phase)) q .0) (p .0))
+      goes-on : (x y : Task) → (y ≡ x) ⊎ ((jobless (s .jobs) x ≡ true) × Ends x y) → readyOf j x ≡ true → readyOf j y ≡ true
+      goes-on x y (inl p) q = ap (readyOf j) p ∙ q
+      goes-on x y (inr p) q = absurd (wanted x (and-parts (ofJob (j .name) x) (isReady (x .phase)) q .0) (p .0))
 
   only : (k : Job) → In k (s .jobs) → same (j .name) (k .name) ≡ true → k ≡ j
   only k ki e = sym (once-job (s .jobs) (fine .jobs) j k i ki e)
@@ -151,13 +151,13 @@ module _ (s : State) (fine : Fine s) (j : Job) (i : In j (s .jobs)) where
         least : t ≡ x → j .least ≤ readies j v
         least e = enough (m .2)
           where
-            mine′ : same (j .name) (k .name) ≡ true
-            mine′ = eq-same (j .name) (k .name) (same-eq (j .name) (t .job) own ∙ (ap (λ (y : Task). y .job) e ∙ sym (same-eq (k .name) (x .job) (m .1))))
+            its : same (j .name) (k .name) ≡ true
+            its = eq-same (j .name) (k .name) (same-eq (j .name) (t .job) own ∙ (ap (λ (y : Task). y .job) e ∙ sym (same-eq (k .name) (x .job) (m .1))))
 
             enough : (isReady (x .phase) ≡ false) ⊎ (k .least < length (readyOnes (mine k (u .tasks)))) → j .least ≤ readies j v
             enough (inl n) = clash (isReady (x .phase)) (sym (ap (λ (y : Task). isReady (y .phase)) e) ∙ ready) n
             enough (inr l) =
-                let l′ : j .least < readies j u = subst (λ (z : Job). z .least < readies z u) (only k ki mine′) (subst (λ (z : ℕ). k .least < z) (readies-are k (u .tasks)) l) in
+                let l′ : j .least < readies j u = subst (λ (z : Job). z .least < readies z u) (only k ki its) (subst (λ (z : ℕ). k .least < z) (readies-are k (u .tasks)) l) in
                 still k ki u h (x ∷ xs) m (omega arith)
 
         pick : ((y : Task) × In y (v .tasks) × EndsOne x t y) ⊎ ((t ≡ x) × (isWaiting (t .phase) ≡ true)) → Spared v
@@ -192,11 +192,11 @@ module _ (s : State) (fine : Fine s) (j : Job) (i : In j (s .jobs)) where
 
     pub spared-settle : In t (s .tasks) → Spared (settle s)
     unfolding first
-    spared-settle ti = placing′ (steps-are (λ (u : State). Tidy u × Spared u) (s .jobs) first (λ k ki u p. (tidy-step k u (p .0), spared-step k ki u (p .0) (p .1))) (tidy-first, spared-first ti) .1)
+    spared-settle ti = placed-on (steps-are (λ (u : State). Tidy u × Spared u) (s .jobs) first (λ k ki u p. (tidy-step k u (p .0), spared-step k ki u (p .0) (p .1))) (tidy-first, spared-first ti) .1)
       where
-        placing′ : Spared (unplaced s) → Spared (settle s)
-        placing′ (inl p) = inl (put-stays (settle-pass s (fine .tidy)) t (ready-not-waiting (t .phase) ready) p)
-        placing′ (inr p) = inr (put-stays (settle-pass s (fine .tidy)) (phased Ending t) ending-on (p .0), le-trans (p .1) least-placing)
+        placed-on : Spared (unplaced s) → Spared (settle s)
+        placed-on (inl p) = inl (put-stays (settle-pass s (fine .tidy)) t (ready-not-waiting (t .phase) ready) p)
+        placed-on (inr p) = inr (put-stays (settle-pass s (fine .tidy)) (phased Ending t) ending-on (p .0), le-trans (p .1) least-placing)
 
 -- THE PROMISES
 

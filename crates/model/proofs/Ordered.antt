@@ -19,7 +19,7 @@ use Rattle.model.proofs.Tasks.{rising-one}
 use Rattle.model.proofs.Settles.{Fine}
 use Rattle.model.proofs.Room.{weigh, weighSeen, seen-within}
 use Rattle.model.proofs.Acts.{does-is, fine-settle, fine-heard}
-use Rattle.model.proofs.Hold.{cpu′, mem′}
+use Rattle.model.proofs.Hold.{cpuNeed, memNeed}
 use Rattle.model.proofs.Keeps.{Sound}
 use Rattle.model.proofs.Worlds.{Agrees, inv-reach, put-is}
 use Rattle.model.proofs.Numbers.{Given, given-does, given-down}
@@ -118,7 +118,7 @@ runs-within w r m mi = record { ordered = λ x xi. let o = g .runs x (in-from xi
     g : Agrees (w .herd) (w .sent) (m .num) a
     g = inv-reach r .agents (m .num)
 
-    room : (weigh cpu′ ts ≤ m .cpu) × (weigh mem′ ts ≤ m .mem)
+    room : (weigh cpuNeed ts ≤ m .cpu) × (weigh memNeed ts ≤ m .mem)
     room = inv-reach r .sound .room m (in-from mi)
 
     known : (o : Order) → List·Memᴰ o (a .ordered) → (t : Task) × List·Memᴰ t ts × (t .id ≡ o .id) × (t .spec ≡ o .spec)
@@ -131,5 +131,5 @@ runs-within w r m mi = record { ordered = λ x xi. let o = g .runs x (in-from xi
         let o = g .runs x j in let t = g .ordered (o .0) (o .1) .1 in let e : t .0 .id ≡ x .id = t .2 ∙ o .2 in
         (t .0, keep-in (onMachine (m .num)) (w .herd .tasks) (t .0) (t .1) (t .3), e, asked-of need (x .id) (a .ordered) (t .0 .spec) (λ p pj q. known-reach r .agents (m .num) p pj .1 (t .0) (t .1) (e ∙ q)) _ refl)
 
-    fits : (need : Spec → ℕ) (room′ : ℕ) → weigh (λ (t : Task). need (t .spec)) ts ≤ room′ → askedBy need (a .ordered) (a .runs) ≤ room′
-    fits need room′ h = subst (λ (n : ℕ). n ≤ room′) (sym (asked-is need (a .ordered) (a .runs))) (le-trans (seen-within _ (λ (t : Task). need (t .spec)) (a .runs) ts (g .once) (on need)) h)
+    fits : (need : Spec → ℕ) (has : ℕ) → weigh (λ (t : Task). need (t .spec)) ts ≤ has → askedBy need (a .ordered) (a .runs) ≤ has
+    fits need has h = subst (λ (n : ℕ). n ≤ has) (sym (asked-is need (a .ordered) (a .runs))) (le-trans (seen-within _ (λ (t : Task). need (t .spec)) (a .runs) ts (g .once) (on need)) h)

@@ -56,13 +56,13 @@ unfolding running differ
 running-once n w h [] d = tt
 running-once n w h (i ∷ is) d =
     let p = and-parts (not (some (eqb i) is)) (differ is) d in
-    once-append eqId (keep f (ran w i)) (running n w is) here′ (running-once n w h is (p .1)) (λ x y xi yi. let z = running-at n w is y yi in ne-eqb (x .id) (y .id) (λ e. eqb-false i (z .0) (some-not (eqb i) is (not-true _ (p .0)) (z .0) (z .1)) (one-place w h i (z .0) x y (in-keep f (ran w i) x xi .0) (z .2) e)))
+    once-append eqId (keep f (ran w i)) (running n w is) at-one (running-once n w h is (p .1)) (λ x y xi yi. let z = running-at n w is y yi in ne-eqb (x .id) (y .id) (λ e. eqb-false i (z .0) (some-not (eqb i) is (not-true _ (p .0)) (z .0) (z .1)) (one-place w h i (z .0) x y (in-keep f (ran w i) x xi .0) (z .2) e)))
   where
     f : Seen → Bool
     f = isOf n (w .herd .tasks)
 
-    here′ : Once eqId (keep f (ran w i))
-    here′ = once-pass eqId (λ x. Unit {0}) (λ x y. y ≡ x) (λ x y x′ y′ p q e. ap (λ (z : Seen). eqId z y′) p ∙ (ap (eqId x) q ∙ e)) (pass-keep _ _ f (ran w i) (λ x j e. tt) (λ x j e. refl)) (h .agents i .once)
+    at-one : Once eqId (keep f (ran w i))
+    at-one = once-pass eqId (λ x. Unit {0}) (λ x y. y ≡ x) (λ x y x′ y′ p q e. ap (λ (z : Seen). eqId z y′) p ∙ (ap (eqId x) q ∙ e)) (pass-keep _ _ f (ran w i) (λ x j e. tt) (λ x j e. refl)) (h .agents i .once)
 
 weigh-ones : (ts : List Task) → weigh (λ (t : Task). 1) ts ≡ length ts
 unfolding weigh

@@ -1,4 +1,4 @@
--- A pass keeps tasks by rising numbers, and the ready ones that are to stay.
+-- A pass keeps tasks by rising numbers below the next; and what a good state is, in the form in which proofs have it.
 -- Assumes nothing.
 use mathlib.Core.Path.{_≡_, refl, sym, _∙_, ap}
 use mathlib.Core.Logic.{_⊎_, inl, inr}

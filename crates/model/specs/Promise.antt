@@ -12,8 +12,8 @@ use Rattle.model.specs.State.{Name, Machine, Spec, Job, Task, State, blank, is
 use Rattle.model.specs.Settle.{settle, here, takes, readyOnes, mine}
 use Rattle.model.specs.Calls.{Seen, Call, SetJob, Reply, No, does, down, core}
 use Rattle.model.specs.World.{World, Reach}
-use Rattle.model.specs.Memory.{Code, Meant, Right}
-use Rattle.model.specs.Right.{Darkens}
+use Rattle.model.specs.Memory.{Memory, done, Code, Meant, Right}
+use Rattle.model.specs.Right.{RightBy, RunsRight, RunsFit, Darkens}
 
 -- OF THE HERD'S OWN MACHINE
 
@@ -35,6 +35,22 @@ CoreWhole e = Whole core e
 -- going dark twice is going dark once, and at the beginning the dark changes nothing, whatever is built
 abbrev pub DarkOnce : Type 0
 DarkOnce = (can : Call → Bool) → Darkens (herd can)
+
+-- the code that has built nothing yet, and answers every call by 12: it is right for that, and so are its runs. (That what is said of right code can be met, and can stand in a contract.)
+abbrev pub nothing : Call → Bool
+nothing c = false
+
+abbrev pub silent : Code Call Reply
+silent = record { Mind = Unit {0}; wakes = done tt; does = λ c x. done (record { reply = No 12; mind = tt }) }
+
+abbrev pub BlankTold : Memory → State → Type 0
+BlankTold m s = s ≡ blank
+
+abbrev pub BlankAwake : Unit {0} → Memory → State → Type 0
+BlankAwake x m s = s ≡ blank
+
+abbrev pub SilentRight : Type 0
+SilentRight = RightBy (herd nothing) silent BlankTold BlankAwake × RunsRight (herd nothing) silent × RunsFit silent
 
 -- OF ALL TOGETHER, at every moment of every run, with agents by their rules, over lines that lose, double, delay and reorder, and with machines and the herd falling at any time
 

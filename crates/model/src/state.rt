@@ -1,5 +1,5 @@
 // Of one call, one pass, one state.
-ghost use Rattle.model.specs.Promise.{DarkOnce, LeastStay, LeastStays, NeverMore, StaysGood, WaitsForRoom};
+ghost use Rattle.model.specs.Promise.{LeastStay, LeastStays, NeverMore, StaysGood, WaitsForRoom};
 ghost use Rattle.model.specs.Always.{PassTakesFew, RefusalKeeps};
 
 // Jobs keep different names, machines different numbers, and tasks rising numbers below the next one:
@@ -50,13 +50,6 @@ pub fn pass_takes_few() -> u8
 // After a pass no task waits that a machine would take.
 pub fn waits_for_room() -> u8
     ensures { λ _. ⌜ WaitsForRoom ⌝ }
-{
-    0
-}
-
-// Going dark twice is going dark once, and at the beginning the dark changes nothing.
-pub fn dark_once() -> u8
-    ensures { λ _. ⌜ DarkOnce ⌝ }
 {
     0
 }

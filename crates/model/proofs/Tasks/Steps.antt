@@ -80,18 +80,18 @@ may-end s j ts sub = pick (toEnd s j (mine j (s .tasks)) ts) (λ x i. known x (h
     Known : Task → Type 0
     Known x = In x (s .tasks) × (ofJob (j .name) x ≡ true) × ((isReady (x .phase) ≡ false) ⊎ (j .least < length (readyOnes all)))
 
-    with′ : (x : Task) → In x ts → (isReady (x .phase) ≡ false) ⊎ (j .least < length (readyOnes all)) → Known x
-    with′ x i o = let k = in-keep (ofJob (j .name)) (s .tasks) x (sub x i) in (k .0, k .1, o)
+    known-of : (x : Task) → In x ts → (isReady (x .phase) ≡ false) ⊎ (j .least < length (readyOnes all)) → Known x
+    known-of x i o = let k = in-keep (ofJob (j .name)) (s .tasks) x (sub x i) in (k .0, k .1, o)
 
     readies : (b : Bool) → ltb (j .least) (length (readyOnes all)) ≡ b → (x : Task) → In x (cond b (lastOf (readyOnes ts)) []) → Known x
-    readies true e x i = with′ x (in-keep (λ (t : Task). isReady (t .phase)) ts x (last-in (readyOnes ts) x i) .0) (inr (ltb-true (j .least) (length (readyOnes all)) e))
+    readies true e x i = known-of x (in-keep (λ (t : Task). isReady (t .phase)) ts x (last-in (readyOnes ts) x i) .0) (inr (ltb-true (j .least) (length (readyOnes all)) e))
     readies false e x i = absurd i
 
     f : Task → Bool
     f t = not (isReady (t .phase)) && sure s t
 
     known : (x : Task) → In x (lastOf (keep f ts)) ⊎ In x (cond (ltb (j .least) (length (readyOnes all))) (lastOf (readyOnes ts)) []) → Known x
-    known x (inl i) = let k = in-keep f ts x (last-in (keep f ts) x i) in with′ x (k .0) (inl (not-true _ (and-parts (not (isReady (x .phase))) (sure s x) (k .1) .0)))
+    known x (inl i) = let k = in-keep f ts x (last-in (keep f ts) x i) in known-of x (k .0) (inl (not-true _ (and-parts (not (isReady (x .phase))) (sure s x) (k .1) .0)))
     known x (inr i) = readies (ltb (j .least) (length (readyOnes all))) refl x i
 
     pick : (xs : List Task) → ((x : Task) → In x xs → Known x) → MayEnd s j xs

@@ -84,28 +84,28 @@ agrees-obeys s ws i a os k one g =
 abbrev pub SameId : Seen → Seen → Type 0
 SameId x y = y .id ≡ x .id
 
-abbrev pub AnyS : Seen → Type 0
-AnyS x = Unit {0}
+abbrev pub AnySeen : Seen → Type 0
+AnySeen x = Unit {0}
 
 abbrev pub withRuns : List Seen → Agent → Agent
 withRuns rs a = record { life = a .life; number = a .number; ordered = a .ordered; runs = rs }
 
-pub agrees-runs : (s : State) (ws : List Word) (i : ℕ) (a : Agent) (rs : List Seen) → Pass AnyS SameId (a .runs) rs → Agrees s ws i a → Agrees s ws i (withRuns rs a)
+pub agrees-runs : (s : State) (ws : List Word) (i : ℕ) (a : Agent) (rs : List Seen) → Pass AnySeen SameId (a .runs) rs → Agrees s ws i a → Agrees s ws i (withRuns rs a)
 agrees-runs s ws i a rs p g =
     record {
       ups = g .ups;
       backs = g .backs;
       ordered = g .ordered;
-      runs = λ x j. let q = pass-from AnyS SameId p x j in let o = g .runs (q .0) (q .1) in (o .0, o .1, o .2 ∙ (sym (q .3) ∙ sym (ap (λ (z : Seen). z .id) (q .4))));
-      once = once-pass _ AnyS SameId (λ x y x′ y′ p′ q e. ap (λ (z : ℕ). eqb z (y′ .id)) p′ ∙ (ap (λ (z : ℕ). eqb (x .id) z) q ∙ e)) p (g .once);
+      runs = λ x j. let q = pass-from AnySeen SameId p x j in let o = g .runs (q .0) (q .1) in (o .0, o .1, o .2 ∙ (sym (q .3) ∙ sym (ap (λ (z : Seen). z .id) (q .4))));
+      once = once-pass _ AnySeen SameId (λ x y x′ y′ p′ q e. ap (λ (z : ℕ). eqb z (y′ .id)) p′ ∙ (ap (λ (z : ℕ). eqb (x .id) z) q ∙ e)) p (g .once);
     }
 
-pub pass-behind : (before xs ys : List Seen) → Pass AnyS SameId xs ys → Pass AnyS SameId (before ++ xs) (before ++ ys)
+pub pass-behind : (before xs ys : List Seen) → Pass AnySeen SameId xs ys → Pass AnySeen SameId (before ++ xs) (before ++ ys)
 pass-behind [] xs ys p = p
 pass-behind (b ∷ bs) xs ys p = goes refl (pass-behind bs xs ys p)
 
-pub pass-all : (xs : List Seen) → Pass AnyS SameId xs xs
-pass-all xs = pass-same AnyS SameId xs (λ x i. refl)
+pub pass-all : (xs : List Seen) → Pass AnySeen SameId xs xs
+pass-all xs = pass-same AnySeen SameId xs (λ x i. refl)
 
 pub agrees-starts : (s : State) (ws : List Word) (i : ℕ) (a : Agent) (o : Order) → In o (a .ordered) → some (isSeen (o .id)) (a .runs) ≡ false → Agrees s ws i a → Agrees s ws i (withRuns (record { id = o .id; ready = false } ∷ a .runs) a)
 agrees-starts s ws i a o j n g = record { ups = g .ups; backs = g .backs; ordered = g .ordered; runs = runs; once = (λ y k. some-not (isSeen (o .id)) (a .runs) n y k, g .once) }

@@ -60,11 +60,11 @@ orders-in (t ∷ ts) o i = pick (isEnding (t .phase)) i (λ j. orders-in ts o j)
     pick false (inr j) r = let w = r j in (w .0, inr (w .1), w .2)
 
 module _ (s : State) (f : Sound s) (ws : List Word) (i : ℕ) (a : Agent) (g : Agrees s ws i a) (l n : ℕ) (xs : List Seen) (up : In (Up i l n xs) ws) (m : Machine) (ms : List Machine) (e : find (isMachine i) (s .machines) ≡ m ∷ ms) (nw : News m l n) where
-  abbrev pub u′ : State
-  u′ = heard i l n xs s
+  abbrev pub told : State
+  told = heard i l n xs s
 
-  abbrev pub new′ : Machine
-  new′ = heardFrom l n (s .now) m
+  abbrev pub renewed : Machine
+  renewed = heardFrom l n (s .now) m
 
   pub mi : In m (s .machines)
   mi = find-in (isMachine i) (s .machines) m ms e .0
@@ -75,18 +75,18 @@ module _ (s : State) (f : Sound s) (ws : List Word) (i : ℕ) (a : Agent) (g : A
   is-m : (v : Machine) → In v (s .machines) → v .num ≡ i → v ≡ m
   is-m v j q = once-machine (s .machines) (f .fine .machines) v m j mi (q ∙ sym me)
 
-  same-machines : settle u′ .machines ≡ u′ .machines
-  same-machines = unplaced-alike u′ .1
+  same-machines : settle told .machines ≡ told .machines
+  same-machines = unplaced-alike told .1
 
-  fine′ : Fine u′
-  fine′ = fine-heard i l n xs s (f .fine)
+  fine-told : Fine told
+  fine-told = fine-heard i l n xs s (f .fine)
 
-  new-in : In new′ (settle u′ .machines)
-  new-in = subst (λ (zs : List Machine). In new′ zs) (sym same-machines) (change-hit (isMachine i) (heardFrom l n (s .now)) (s .machines) m ms e)
+  new-in : In renewed (settle told .machines)
+  new-in = subst (λ (zs : List Machine). In renewed zs) (sym same-machines) (change-hit (isMachine i) (heardFrom l n (s .now)) (s .machines) m ms e)
 
-  is-new : (v : Machine) → In v (settle u′ .machines) → v .num ≡ i → v ≡ new′
+  is-new : (v : Machine) → In v (settle told .machines) → v .num ≡ i → v ≡ renewed
   is-new v j q =
-      once-machine (u′ .machines) (fine′ .machines) v new′ (subst (λ (zs : List Machine). In v zs) same-machines j) (change-hit (isMachine i) (heardFrom l n (s .now)) (s .machines) m ms e) (q ∙ sym me)
+      once-machine (told .machines) (fine-told .machines) v renewed (subst (λ (zs : List Machine). In v zs) same-machines j) (change-hit (isMachine i) (heardFrom l n (s .now)) (s .machines) m ms e) (q ∙ sym me)
 
   -- what is ordered was of this life, and is in the report
   live : (v : Machine) × At s i (a .life) v → (l ≡ a .life) × (m .life ≡ l) × (m .number < n)
@@ -97,25 +97,25 @@ module _ (s : State) (f : Sound s) (ws : List Word) (i : ℕ) (a : Agent) (g : A
       pick b c (inl h) = absurd (omega arith)
       pick b c (inr h) = (sym (h .0) ∙ c, h .0, h .1)
 
-  still : (o : Order) → In o (a .ordered) → OnIt (settle u′ .tasks) i (o .id)
+  still : (o : Order) → In o (a .ordered) → OnIt (settle told .tasks) i (o .id)
   still o oj =
       let h = g .ordered o oj in let w = live (h .0) in let t = h .1 in
-      on-settle u′ (fine′ .tidy) i (o .id) (pick (t .0) (t .1) (t .2) (t .3) w (pass-to (HeardGone i l xs) (HeardAs i l) (heard-pass i l xs (s .tasks)) (t .0) (t .1)))
+      on-settle told (fine-told .tidy) i (o .id) (pick (t .0) (t .1) (t .2) (t .3) w (pass-to (HeardGone i l xs) (HeardAs i l) (heard-pass i l xs (s .tasks)) (t .0) (t .1)))
     where
-      pick : (t : Task) → In t (s .tasks) → t .id ≡ o .id → onMachine i t ≡ true → (l ≡ a .life) × (m .life ≡ l) × (m .number < n) → ((y : Task) × In y (u′ .tasks) × HeardAs i l t y) ⊎ HeardGone i l xs t → OnIt (u′ .tasks) i (o .id)
+      pick : (t : Task) → In t (s .tasks) → t .id ≡ o .id → onMachine i t ≡ true → (l ≡ a .life) × (m .life ≡ l) × (m .number < n) → ((y : Task) × In y (told .tasks) × HeardAs i l t y) ⊎ HeardGone i l xs t → OnIt (told .tasks) i (o .id)
       pick t j q p w (inl (y, k, r)) = let z = heard-stay i l t y r in (y, k, z .0 ∙ q, stay-on i t y z ∙ p)
       pick t j q p w (inr (c, inl d)) =
           let r = on-machine i t p in let v = f .told t j (r .0) in
           absurd (eqb-false l (t .life) d (sym (w .1) ∙ (sym (ap (λ (z : Machine). z .life) (is-m (v .0) (v .1) (v .2 ∙ sym (r .1)))) ∙ v .3)))
       pick t j q p w (inr (c, inr d)) = absurd (g .ups l n xs up .2 (w .0) m mi me nw o oj (subst (λ (z : ℕ). seenAs z xs ≡ []) q (d .1)))
 
-  pub agrees-hears : Agrees (settle u′) (Back i l n (orders (keep (onMachine i) (settle u′ .tasks))) ∷ ws) i a
-  agrees-hears = record { ups = ups; backs = backs; ordered = λ o oj. let w = live (g .ordered o oj .0) in ((new′, (new-in, me, w .0)), still o oj); runs = g .runs; once = g .once }
+  pub agrees-hears : Agrees (settle told) (Back i l n (orders (keep (onMachine i) (settle told .tasks))) ∷ ws) i a
+  agrees-hears = record { ups = ups; backs = backs; ordered = λ o oj. let w = live (g .ordered o oj .0) in ((renewed, (new-in, me, w .0)), still o oj); runs = g .runs; once = g .once }
     where
       os : List Order
-      os = orders (keep (onMachine i) (settle u′ .tasks))
+      os = orders (keep (onMachine i) (settle told .tasks))
 
-      older : (v : Machine) → v ≡ new′ → (l′ n′ : ℕ) → News v l′ n′ → News m l n → News m l′ n′
+      older : (v : Machine) → v ≡ renewed → (l′ n′ : ℕ) → News v l′ n′ → News m l n → News m l′ n′
       older v p l′ n′ q r = let vl : v .life ≡ l = ap (λ (z : Machine). z .life) p in let vn : v .number ≡ n = ap (λ (z : Machine). z .number) p in both vl vn q r
         where
           both : v .life ≡ l → v .number ≡ n → News v l′ n′ → News m l n → News m l′ n′
@@ -124,27 +124,27 @@ module _ (s : State) (f : Sound s) (ws : List Word) (i : ℕ) (a : Agent) (g : A
           both vl vn (inr q′) (inl r′) = inl (omega arith)
           both vl vn (inr q′) (inr r′) = inr (omega arith, omega arith)
 
-      ups : (l′ n′ : ℕ) (xs′ : List Seen) → In (Up i l′ n′ xs′) (Back i l n os ∷ ws) → (l′ ≤ a .life) × (l′ ≡ a .life → n′ ≤ a .number) × (l′ ≡ a .life → (v : Machine) → In v (settle u′ .machines) → v .num ≡ i → News v l′ n′ → (o : Order) → In o (a .ordered) → seenAs (o .id) xs′ ≡ [] → ⊥)
+      ups : (l′ n′ : ℕ) (xs′ : List Seen) → In (Up i l′ n′ xs′) (Back i l n os ∷ ws) → (l′ ≤ a .life) × (l′ ≡ a .life → n′ ≤ a .number) × (l′ ≡ a .life → (v : Machine) → In v (settle told .machines) → v .num ≡ i → News v l′ n′ → (o : Order) → In o (a .ordered) → seenAs (o .id) xs′ ≡ [] → ⊥)
       ups l′ n′ xs′ (inl p) = never (cc)
       ups l′ n′ xs′ (inr k) = let h = g .ups l′ n′ xs′ k in (h .0, h .1, λ c v j q w. h .2 c m mi me (older v (is-new v j q) l′ n′ w nw))
 
-      backs : (l′ n′ : ℕ) (os′ : List Order) → In (Back i l′ n′ os′) (Back i l n os ∷ ws) → (l′ ≤ a .life) × (l′ ≡ a .life → n′ ≤ a .number) × (l′ ≡ a .life → (v : Machine) × At (settle u′) i l′ v × (n′ ≤ v .number)) × (l′ ≡ a .life → n′ ≡ a .number → (o : Order) → In o os′ → OnIt (settle u′ .tasks) i (o .id))
+      backs : (l′ n′ : ℕ) (os′ : List Order) → In (Back i l′ n′ os′) (Back i l n os ∷ ws) → (l′ ≤ a .life) × (l′ ≡ a .life → n′ ≤ a .number) × (l′ ≡ a .life → (v : Machine) × At (settle told) i l′ v × (n′ ≤ v .number)) × (l′ ≡ a .life → n′ ≡ a .number → (o : Order) → In o os′ → OnIt (settle told .tasks) i (o .id))
       backs l′ n′ os′ (inl p) =
           let x : l′ ≡ l = cc in let y : n′ ≡ n = cc in let z : os′ ≡ os = cc in let h = g .ups l n xs up in (
             subst (λ (c : ℕ). c ≤ a .life) (sym x) (h .0),
             λ c. subst (λ (d : ℕ). d ≤ a .number) (sym y) (h .1 (sym x ∙ c)),
-            λ c. (new′, (new-in, me, sym x), omega arith),
-            λ c d o oj. let t = orders-in (keep (onMachine i) (settle u′ .tasks)) o (subst (λ (zs : List Order). In o zs) z oj) in let r = in-keep (onMachine i) (settle u′ .tasks) (t .0) (t .1) in (t .0, r .0, t .2, r .1),
+            λ c. (renewed, (new-in, me, sym x), omega arith),
+            λ c d o oj. let t = orders-in (keep (onMachine i) (settle told .tasks)) o (subst (λ (zs : List Order). In o zs) z oj) in let r = in-keep (onMachine i) (settle told .tasks) (t .0) (t .1) in (t .0, r .0, t .2, r .1),
           )
       backs l′ n′ os′ (inr k) =
           let h = g .backs l′ n′ os′ k in
           (h .0, h .1, λ c. old c, λ c d o oj. late c d)
         where
-          old : l′ ≡ a .life → (v : Machine) × At (settle u′) i l′ v × (n′ ≤ v .number)
+          old : l′ ≡ a .life → (v : Machine) × At (settle told) i l′ v × (n′ ≤ v .number)
           old c =
               let v = g .backs l′ n′ os′ k .2 c in let w = live (v .0, (v .1 .0, v .1 .1, v .1 .2 ∙ c)) in
               let vn : v .0 .number ≡ m .number = ap (λ (z : Machine). z .number) (is-m (v .0) (v .1 .0) (v .1 .1)) in let nn : n′ ≤ v .0 .number = v .2 in let mn : m .number < n = w .2 in
-              (new′, (new-in, me, w .0 ∙ sym c), omega arith)
+              (renewed, (new-in, me, w .0 ∙ sym c), omega arith)
 
           late : {C : Type 0} → l′ ≡ a .life → n′ ≡ a .number → C
           late c d =

@@ -17,7 +17,7 @@ use Rattle.model.proofs.Acts.{fine-heard}
 use Rattle.model.proofs.Hold.{once-machine}
 use Rattle.model.proofs.Keeps.{sound-does, sound-down, keeps-settle, keeps-does, keeps-down, keeps-forget, keeps-heard}
 use Rattle.model.proofs.Worlds.Agreement.{Agrees, Inv, agrees-keeps, agrees-anew, agrees-off, put-is, agrees-up, agrees-back, numbered-up, numbered-back}
-use Rattle.model.proofs.Worlds.Agents.{agrees-reports, agrees-obeys, SameId, AnyS, agrees-runs, pass-behind, pass-all, agrees-starts}
+use Rattle.model.proofs.Worlds.Agents.{agrees-reports, agrees-obeys, SameId, AnySeen, agrees-runs, pass-behind, pass-all, agrees-starts}
 use Rattle.model.proofs.Worlds.Hearing.{hears-is, hears-not, is-news, agrees-hears}
 
 inv-start : Inv start
@@ -78,9 +78,9 @@ inv-step h (Step.hearsNot w i l n xs m r) = subst (λ (u : State). Inv (record {
 inv-step h (Step.obeyed w i os m) = record { numbered = h .numbered; sound = h .sound; agents = put-is (λ (j : ℕ) (a : Agent). Agrees (w .herd) (w .sent) j a) i _ (w .agent) (agrees-obeys (w .herd) (w .sent) i (w .agent i) os (in-from m) (once-machine (w .herd .machines) (h .sound .fine .machines)) (h .agents i)) (λ j e. h .agents j) }
 inv-step h (Step.starts w i o m n) = record { numbered = h .numbered; sound = h .sound; agents = put-is (λ (j : ℕ) (a : Agent). Agrees (w .herd) (w .sent) j a) i _ (w .agent) (agrees-starts (w .herd) (w .sent) i (w .agent i) o (in-from m) (not-to-false _ n) (h .agents i)) (λ j e. h .agents j) }
 inv-step h (Step.becomes w i before behind x b e) =
-    record { numbered = h .numbered; sound = h .sound; agents = put-is (λ (j : ℕ) (a : Agent). Agrees (w .herd) (w .sent) j a) i _ (w .agent) (agrees-runs (w .herd) (w .sent) i (w .agent i) _ (subst (λ (zs : List Seen). Pass AnyS SameId zs (before ++ record { id = x .id; ready = b } ∷ behind)) (sym e) (pass-behind before (x ∷ behind) (record { id = x .id; ready = b } ∷ behind) (goes refl (pass-all behind)))) (h .agents i)) (λ j c. h .agents j) }
+    record { numbered = h .numbered; sound = h .sound; agents = put-is (λ (j : ℕ) (a : Agent). Agrees (w .herd) (w .sent) j a) i _ (w .agent) (agrees-runs (w .herd) (w .sent) i (w .agent i) _ (subst (λ (zs : List Seen). Pass AnySeen SameId zs (before ++ record { id = x .id; ready = b } ∷ behind)) (sym e) (pass-behind before (x ∷ behind) (record { id = x .id; ready = b } ∷ behind) (goes refl (pass-all behind)))) (h .agents i)) (λ j c. h .agents j) }
 inv-step h (Step.dies w i before behind x e) =
-    record { numbered = h .numbered; sound = h .sound; agents = put-is (λ (j : ℕ) (a : Agent). Agrees (w .herd) (w .sent) j a) i _ (w .agent) (agrees-runs (w .herd) (w .sent) i (w .agent i) _ (subst (λ (zs : List Seen). Pass AnyS SameId zs (before ++ behind)) (sym e) (pass-behind before (x ∷ behind) behind (gone tt (pass-all behind)))) (h .agents i)) (λ j c. h .agents j) }
+    record { numbered = h .numbered; sound = h .sound; agents = put-is (λ (j : ℕ) (a : Agent). Agrees (w .herd) (w .sent) j a) i _ (w .agent) (agrees-runs (w .herd) (w .sent) i (w .agent i) _ (subst (λ (zs : List Seen). Pass AnySeen SameId zs (before ++ behind)) (sym e) (pass-behind before (x ∷ behind) behind (gone tt (pass-all behind)))) (h .agents i)) (λ j c. h .agents j) }
 
 pub inv-reach : {w : World} → Reach w → Inv w
 inv-reach Reach.begin = inv-start
