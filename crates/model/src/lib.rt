@@ -7,7 +7,7 @@
 // world: of all together, herd, agents and lines, at every moment of every run
 // run: of code over kept words, wherever it is cut
 // cases: worked cases, by computation
+pub mod cases;
+pub mod run;
 pub mod state;
 pub mod world;
-pub mod run;
-pub mod cases;

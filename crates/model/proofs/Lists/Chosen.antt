@@ -50,7 +50,6 @@ find-none {A} f (y ∷ ys) e x h = pick (f y) refl e h (λ e′ i. find-none f y
     pick false p q (inl i) k = ap f i ∙ p
     pick false p q (inr i) k = k q i
 
-
 pub find-in : {A : Type 0} (f : A → Bool) (xs : List A) (m : A) (ms : List A) → find f xs ≡ m ∷ ms → In m xs × (f m ≡ true)
 unfolding find
 find-in f [] m ms e = let z : _≡_ {A = ℕ} 0 1 = cc in absurd (omega arith)

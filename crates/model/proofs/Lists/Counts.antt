@@ -60,7 +60,6 @@ change-down {A} p f g (x ∷ xs) = rw (count-cons p x xs) (pick (f x) (change-do
     pick true h = rw (count-cons p (g x) xs) (less (p x) (p (g x)) (length (keep p xs)))
     pick false h = rw (count-cons p x (change f g xs)) (up (p x) _ _ h)
 
-
 pub keep-nothing : {A : Type 0} (f : A → Bool) (ts : List A) → ((t : A) → In t ts → f t ≡ false) → length (keep f ts) ≤ 0
 unfolding keep
 keep-nothing f [] h = omega arith

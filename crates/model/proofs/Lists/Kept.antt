@@ -49,7 +49,6 @@ keep-keep f g (x ∷ xs) = pick (g x) (f x) refl refl (keep-keep f g xs)
     pick true false p q e = keep-no f x (keep g xs) q ∙ e
     pick false b p q e = e
 
-
 pub change-hit : {A : Type 0} (f : A → Bool) (g : A → A) (xs : List A) (m : A) (ms : List A) → find f xs ≡ m ∷ ms → In (g m) (change f g xs)
 unfolding find change
 change-hit f g [] m ms e = let z : _≡_ {A = ℕ} 0 1 = cc in absurd (omega arith)
