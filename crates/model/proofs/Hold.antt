@@ -19,6 +19,7 @@ use Rattle.model.proofs.Room.{weigh, cpu-weigh, mem-weigh, weigh-cons, waits-n
 
 -- WHAT HOLDS OF MACHINES AND TASKS
 
+-- each task that doesn't wait is on a machine that is there, in the life of its agent
 abbrev pub Housed : List Machine → List Task → Type 0
 Housed ms ts = (t : Task) → In t ts → isWaiting (t .phase) ≡ false → (m : Machine) × In m ms × (m .num ≡ t .machine) × (m .life ≡ t .life)
 
@@ -28,14 +29,17 @@ cpuNeed t = t .spec .cpu
 abbrev pub memNeed : Task → ℕ
 memNeed t = t .spec .mem
 
+-- what is on a machine fits there
 abbrev pub Fitting : List Machine → List Task → Type 0
 Fitting ms ts = (m : Machine) → In m ms → (weigh cpuNeed (here m ts) ≤ m .cpu) × (weigh memNeed (here m ts) ≤ m .mem)
 
+-- a task of number k is on machine i
 abbrev pub OnIt : List Task → ℕ → ℕ → Type 0
 OnIt ts i k = (t : Task) × In t ts × (t .id ≡ k) × (onMachine i t ≡ true)
 
 -- PASSES THAT LEAVE TASKS WHERE THEY ARE
 
+-- a task stays where it is
 abbrev pub Stay : Task → Task → Type 0
 Stay x y = (y .id ≡ x .id) × (isWaiting (y .phase) ≡ isWaiting (x .phase)) × (y .machine ≡ x .machine) × (y .life ≡ x .life) × (y .spec ≡ x .spec)
 
@@ -212,6 +216,7 @@ module _ (ms : List Machine) where
       let q = step-is (λ (v : State). Housed ms (v .tasks) × Fitting ms (v .tasks)) j u (hold-ended j u h) (λ xs m g. let p = hold-ended j u h xs m in let v = withTasks (ended xs (u .tasks)) u in (told-more j v (p .0), room-more j v (p .1))) in
       (tidy-step j u (h .0), q .0, q .1)
 
+-- a pass keeps tasks on machines that are there, and fitting
 pub hold-settle : (s : State) → Fine s → Housed (s .machines) (s .tasks) → Fitting (s .machines) (s .tasks) → Housed (s .machines) (settle s .tasks) × Fitting (s .machines) (settle s .tasks)
 hold-settle s f h r =
     let ms = s .machines in
@@ -222,6 +227,7 @@ hold-settle s f h r =
     let P : List Machine → Type 0 = λ xs. Housed ms (placeAll (u .now) xs (keep (λ (t : Task). isWaiting (t .phase)) (u .tasks)) (u .tasks)) × Fitting ms (placeAll (u .now) xs (keep (λ (t : Task). isWaiting (t .phase)) (u .tasks)) (u .tasks)) in
     subst P (sym e) (places-ok (u .now) ms (f .machines) 0 _ (u .tasks) (queue-of (u .tasks) (p .0 .0)) (p .1) (p .2))
 
+-- what is on a machine is there after a pass
 pub on-settle : (s : State) → Tidy s → (i k : ℕ) → OnIt (s .tasks) i k → OnIt (settle s .tasks) i k
 on-settle s h i k o = on-pass Never Put i (λ x d. absurd d) puts k (settle-pass s h) (all .1)
   where

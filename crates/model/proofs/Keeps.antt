@@ -22,6 +22,7 @@ use Rattle.model.proofs.Hold.{Housed, Fitting, cpuNeed, memNeed, OnIt, Stay, s
 
 -- MACHINES THAT STAY AS THEY ARE, BUT FOR BEING OPEN OR HEARD OF
 
+-- a machine stays as it is, but for being open or heard of
 abbrev pub Firm : Machine → Machine → Type 0
 Firm x y = (y .num ≡ x .num) × (y .life ≡ x .life) × (y .number ≡ x .number) × (y .cpu ≡ x .cpu) × (y .mem ≡ x .mem)
 
@@ -121,6 +122,7 @@ room-heard k l n xs s r y i =
 
 -- THE HERD'S OWN PART
 
+-- what holds of the herd alone in every world
 pub record Sound (s : State) : Type 0 where
   pub fine : Fine s
   pub told : Housed (s .machines) (s .tasks)
@@ -174,9 +176,11 @@ sound-pre (Tick t) s f =
     let p = timed-stay (later t (s .now)) (s .machines) (s .tasks) in record { fine = fine-pre (Tick t) s (f .fine); told = told-stay Never (s .machines) p (f .told); room = room-stay Never (s .machines) p (f .room) }
 sound-pre (Show n) s f = tt
 
+-- calls keep it
 pub sound-does : (c : Call) (s : State) → Sound s → Sound (does c s .state)
 sound-does c s f = does-keeps Sound sound-settle c s f (sound-pre c s f)
 
+-- so does the dark
 pub sound-down : (s : State) → Sound s → Sound (down s)
 sound-down s f =
     let p = down-firm s in let q = down-stay (s .tasks) in
@@ -232,6 +236,7 @@ keeps-pre i (Report k l n xs) s f nr nf = absurd (nr k l n xs refl)
 keeps-pre i (Tick t) s f nr nf = (fine-pre (Tick t) s f .tidy, keeps-same i s _ refl (λ k o. on-stay Never i (λ x d. absurd d) k (timed-stay (later t (s .now)) (s .machines) (s .tasks)) o))
 keeps-pre i (Show n) s f nr nf = tt
 
+-- what a person or the clock says keeps what an agent counts on
 pub keeps-does : (i : ℕ) (c : Call) (s : State) → Fine s → ((k l n : ℕ) (xs : List Seen) → c ≡ Report k l n xs → ⊥) → ((k : ℕ) → c ≡ Forget k → ⊥) → Keeps i s (does c s .state)
 keeps-does i c s f nr nf = does-keeps (Going i s) (λ u p. (tidy-settle u (p .0), keeps-settle i s u (p .0) (p .1))) c s (f .tidy, keeps-refl i s) (keeps-pre i c s f nr nf) .1
 

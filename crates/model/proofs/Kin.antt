@@ -20,12 +20,14 @@ use Rattle.model.proofs.Worlds.{inv-reach}
 
 -- TASKS THAT GO ON
 
+-- a task goes on as itself
 abbrev pub Same : Task → Task → Type 0
 Same x y = (y .id ≡ x .id) × (y .spec ≡ x .spec) × (y .job ≡ x .job) × (y .version ≡ x .version)
 
 abbrev pub Any : Task → Type 0
 Any x = Unit {0}
 
+-- of one that doesn't change
 pub is-same : (x y : Task) → y ≡ x → Same x y
 is-same x y e = (ap (λ (t : Task). t .id) e, ap (λ (t : Task). t .spec) e, ap (λ (t : Task). t .job) e, ap (λ (t : Task). t .version) e)
 

@@ -15,9 +15,11 @@ use Rattle.model.specs.Promise.{onceJobs, onceMachines, Good}
 use Rattle.model.proofs.Lists.{to-true, from-true, clash, In, in-end, every-at, every-from, some-not, not-some, Pass, pass-from, Once}
 use Rattle.model.proofs.Tasks.{same-sym, Rising, rising-from, rising-to, rising-pass, rising-end, jobless, Ends, orphans-pass, ended-pass, MayEnd, step-is, steps-are, Put, put-id, Never, places-pass, queue-of}
 
+-- tasks by rising numbers, all below the next
 abbrev pub Tidy : State → Type 0
 Tidy s = Rising 0 (s .tasks) × ((t : Task) → In t (s .tasks) → t .id < s .nextId)
 
+-- a pass that keeps numbers keeps tasks tidy
 pub tidy-pass : (D : Task → Type 0) (R : Task → Task → Type 0) → ((x y : Task) → R x y → y .id ≡ x .id) → (s : State) {ts : List Task} → Pass D R (s .tasks) ts → Tidy s → Tidy (withTasks ts s)
 tidy-pass D R ids s {ts} p h = (rising-pass D R ids 0 p (h .0), λ t i. low t i)
   where
@@ -58,9 +60,11 @@ tidy-unplaced s h = steps-are Tidy (s .jobs) _ (λ j i u k. tidy-step j u k) (ti
 abbrev pub Alike : State → State → Type 0
 Alike s u = (u .now ≡ s .now) × (u .machines ≡ s .machines) × (u .jobs ≡ s .jobs)
 
+-- a pass leaves the time, the machines and the jobs as they are
 pub unplaced-alike : (s : State) → Alike s (unplaced s)
 unplaced-alike s = steps-are (Alike s) (s .jobs) _ (λ j i u k. step-is (Alike s) j u (λ xs m. k) (λ xs m g. k)) (refl, refl, refl)
 
+-- the second half of a pass, by what it does to tasks
 pub settle-pass : (s : State) → Tidy s → Pass Never Put (unplaced s .tasks) (settle s .tasks)
 settle-pass s h = let u = unplaced s in places-pass (u .now) 0 (u .machines) _ (u .tasks) (queue-of (u .tasks) (tidy-unplaced s h .0))
 
@@ -89,6 +93,7 @@ unfolding onceMachines
 machines-to [] o = refl
 machines-to (m ∷ ms) o = and-from (not (some (isMachine (m .num)) ms)) (onceMachines ms) (ap not (not-some (isMachine (m .num)) ms (o .0))) (machines-to ms (o .1))
 
+-- one job by a name
 pub once-job : (js : List Job) → Once (λ (a b : Job). same (a .name) (b .name)) js → (a b : Job) → In a js → In b js → same (a .name) (b .name) ≡ true → a ≡ b
 once-job [] o a b i k e = absurd i
 once-job (j ∷ js) o a b (inl p) (inl q) e = p ∙ sym q
@@ -98,6 +103,7 @@ once-job (j ∷ js) o a b (inr i) (inr k) e = once-job js (o .1) a b i k e
 
 -- GOOD
 
+-- a good state, in the form in which proofs have it
 pub record Fine (s : State) : Type 0 where
   pub jobs : Once (λ (a b : Job). same (a .name) (b .name)) (s .jobs)
   pub machines : Once (λ (a b : Machine). eqb (a .num) (b .num)) (s .machines)

@@ -18,6 +18,7 @@ use Rattle.model.proofs.Settles.{tidy-pass, tidy-settle, unplaced-alike, Fine,
 use Rattle.model.proofs.Acts.Outcomes.{Pre, does-keeps}
 use Rattle.model.proofs.Acts.Heard.{told, heard-pass, heard-id}
 
+-- a pass keeps a state good
 pub fine-settle : (s : State) → Fine s → Fine (settle s)
 fine-settle s f =
     record {
@@ -61,6 +62,7 @@ fine-timed t s f =
     let p : Pass Never AsId (s .tasks) (map (unsure t (s .machines)) (s .tasks)) = pass-map Never AsId (unsure t (s .machines)) (s .tasks) (λ x i. unsure-as t (s .machines) x) in
     record { jobs = f .jobs; machines = f .machines; tidy = tidy-pass Never AsId (λ x y r. r .0) s p (f .tidy) }
 
+-- each call's own change keeps a state good
 pub fine-pre : (c : Call) (s : State) → Fine s → Pre Fine c s
 fine-pre (SetJob n a c l m) s f = (
   λ e. (record { jobs = once-end _ (s .jobs) (newJob n a c l m) (f .jobs) (λ x i. unsame-sym n (x .name) (find-none (isJob n) (s .jobs) e x i)); machines = f .machines; tidy = f .tidy }),
@@ -78,6 +80,7 @@ fine-pre (Report k l n xs) s f = λ m ms e q. (fine-heard k l n xs s f)
 fine-pre (Tick t) s f = (fine-timed (later t (s .now)) s f)
 fine-pre (Show n) s f = tt
 
+-- a call keeps a state good
 pub fine-does : (c : Call) (s : State) → Fine s → Fine (does c s .state)
 fine-does c s f = does-keeps Fine fine-settle c s f (fine-pre c s f)
 
@@ -87,5 +90,6 @@ fine-down s f =
     let p : Pass Never AsId (s .tasks) (map told (s .tasks)) = pass-map Never AsId told (s .tasks) (λ t i. cond-both (isReady (t .phase)) (phased Told t) t (AsId t) (λ _. (refl, refl)) (λ _. (refl, refl))) in
     record { jobs = f .jobs; machines = once-machines (λ x. ⊥) AsNum (λ x y e. e) (pass-map (λ x. ⊥) AsNum _ (s .machines) (λ x i. refl)) (f .machines); tidy = tidy-pass Never AsId (λ x y r. r .0) s p (f .tidy) }
 
+-- calls, the dark and passes keep states good
 pub stay-good : StaysGood
 stay-good s c g = let f = fine-from s g in (fine-to _ (fine-does c s f), fine-to _ (fine-down s f), fine-to _ (fine-settle s f))

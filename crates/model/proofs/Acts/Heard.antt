@@ -22,6 +22,7 @@ pub told : (b : Bool) → isWaiting (cond b Ready Told) ≡ false
 told true = refl
 told false = refl
 
+-- what a report does to tasks is a pass
 pub heard-pass : (k l : ℕ) (xs : List Seen) (ts : List Task) → Pass (HeardGone k l xs) (HeardAs k l) ts (heardAll k l xs ts)
 unfolding heardAll heardOf
 heard-pass k l xs [] = done

@@ -13,6 +13,7 @@ use Rattle.model.specs.Settle.{settle}
 use Rattle.model.specs.Calls.{Seen, Call, SetJob, EndJob, AddMachine, Close, Reopen, Forget, Report, Tick, Show, Lines, Out, no, yes', sameSpec, jobOk, allMost, others, setsJob, small, answersReport, reports, opened, later, timed, linesOf, acts, isTick, does, newJob, resetJob, newMachine, heard, forgotten}
 use Rattle.model.proofs.Lists.{none-true}
 
+-- what has to be shown of each outcome that isn't a refusal
 abbrev pub Must : (Out → Type 0) → Call → State → Type 0
 Must P (SetJob n a c l m) s =
     (find (isJob n) (s .jobs) ≡ [] → P (yes' (withJobs (s .jobs ++ (newJob n a c l m ∷ [])) s))) × ((j : Job) (js : List Job) → find (isJob n) (s .jobs) ≡ j ∷ js → P (yes' (withJobs (change (isJob n) (resetJob n a c l m) (s .jobs)) s)))
@@ -38,6 +39,7 @@ Pre Q (Report k l n xs) s = (m : Machine) (ms : List Machine) → find (isMachin
 Pre Q (Tick t) s = Q (timed (later t (s .now)) s)
 Pre Q (Show n) s = Unit {0}
 
+-- what a pass keeps, each call's outcome has if the state before the pass had it
 pub must-settle : (Q : State → Type 0) → ((u : State) → Q u → Q (settle u)) → (c : Call) (s : State) → Q s → Pre Q c s → Must (λ (o : Out). Q (o .state)) c s
 must-settle Q h (SetJob n a c l m) s q p = (λ e. h _ (p .0 e), λ j js e. h _ (p .1 j js e))
 must-settle Q h (EndJob n) s q p = h _ p
@@ -59,6 +61,7 @@ unfolding reports
 reports-is P k l n xs s r h [] e = r 2
 reports-is P k l n xs s r h (m ∷ ms) e = cond-both (ltb l (m .life) || (eqb l (m .life) && leb n (m .number))) _ _ P (λ _. r 5) (λ q. h m ms e q)
 
+-- the same where a time was told
 pub acts-is : (P : Out → Type 0) (c : Call) (s : State) → ((k : ℕ) → P (no k s)) → Must P c s → P (acts c s)
 unfolding acts
 acts-is P (SetJob n a c l m) s r h = cond-both (jobOk n a c l m) _ _ P (λ _. cond-both (ltb 2048 (m + allMost (others n (s .jobs)))) _ _ P (λ _. r 8) (λ _. sets-is P n a c l m s r h (find (isJob n) (s .jobs)) refl)) (λ _. r 1)
@@ -72,6 +75,7 @@ acts-is P (Report k l n xs) s r h = cond-both (ltb 4611686018427387904 l || ltb 
 acts-is P (Tick t) s r h = cond-both (eqb t 0 || ltb 4611686018427387904 t) _ _ P (λ _. r 1) (λ _. h)
 acts-is P (Show n) s r h = h
 
+-- what holds of every refusal and of every other outcome holds of a call
 pub does-is : (P : Out → Type 0) (c : Call) (s : State) → ((k : ℕ) → P (no k s)) → Must P c s → P (does c s)
 does-is P c s r h = cond-both (eqb (s .now) 0 && not (isTick c)) (no 10 s) (acts c s) P (λ _. r 10) (λ _. acts-is P c s r h)
 
@@ -81,6 +85,7 @@ does-keeps Q h c s q p = does-is (λ (o : Out). Q (o .state)) c s (λ k. q) (mus
 
 -- THE SAME, WITH WHAT A CALL TESTS
 
+-- what a call was tested for when it is not refused
 abbrev pub Tested : Call → State → Type 0
 Tested (SetJob n a c l m) s = jobOk n a c l m ≡ true
 Tested (EndJob n) s = Unit {0}

@@ -11,6 +11,7 @@ use Rattle.model.specs.Lists.{some, every, find, none}
 use Rattle.model.proofs.Lists.Tests.{clash, bool}
 use Rattle.model.proofs.Lists.Members.{In}
 
+-- every: of each member
 pub every-at : {A : Type 0} (f : A → Bool) (xs : List A) → every f xs ≡ true → (x : A) → In x xs → f x ≡ true
 unfolding every
 every-at f [] e x h = absurd h
@@ -28,18 +29,21 @@ some-from f [] x h e = absurd h
 some-from f (y ∷ ys) x (inl p) e = or-left (f y) (some f ys) (sym (ap f p) ∙ e)
 some-from f (y ∷ ys) x (inr h) e = or-right (f y) (some f ys) (some-from f ys x h e)
 
+-- some: a member that passes
 pub some-at : {A : Type 0} (f : A → Bool) (xs : List A) → some f xs ≡ true → (x : A) × In x xs × (f x ≡ true)
 unfolding some
 some-at f [] e = absurd (false≢true e)
 some-at f (y ∷ ys) e =
     elim (or-cases (f y) (some f ys) e) [ inl p ↦ (y, inl refl, p) | inr p ↦ let r = some-at f ys p in (r .0, inr (r .1), r .2) ]
 
+-- not some: no member passes
 pub some-not : {A : Type 0} (f : A → Bool) (xs : List A) → some f xs ≡ false → (x : A) → In x xs → f x ≡ false
 some-not f xs e x h = elim (bool (f x)) [ inl p ↦ clash (some f xs) (some-from f xs x h p) e | inr p ↦ p ]
 
 pub not-some : {A : Type 0} (f : A → Bool) (xs : List A) → ((x : A) → In x xs → f x ≡ false) → some f xs ≡ false
 not-some f xs h = elim (bool (some f xs)) [ inl p ↦ let r = some-at f xs p in clash (f (r .0)) (r .2) (h (r .0) (r .1)) | inr p ↦ p ]
 
+-- nothing found: no member passes
 pub find-none : {A : Type 0} (f : A → Bool) (xs : List A) → find f xs ≡ [] → (x : A) → In x xs → f x ≡ false
 unfolding find
 find-none f [] e x h = absurd h
@@ -50,6 +54,7 @@ find-none {A} f (y ∷ ys) e x h = pick (f y) refl e h (λ e′ i. find-none f y
     pick false p q (inl i) k = ap f i ∙ p
     pick false p q (inr i) k = k q i
 
+-- what is found is a member, and passes
 pub find-in : {A : Type 0} (f : A → Bool) (xs : List A) (m : A) (ms : List A) → find f xs ≡ m ∷ ms → In m xs × (f m ≡ true)
 unfolding find
 find-in f [] m ms e = let z : _≡_ {A = ℕ} 0 1 = cc in absurd (omega arith)

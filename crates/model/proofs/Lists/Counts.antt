@@ -11,10 +11,12 @@ use Rattle.std.proofs.shelf.Tests.{false≢true}
 use Rattle.model.specs.Lists.{keep, change}
 use Rattle.model.proofs.Lists.Members.{In}
 
+-- one more, or none
 abbrev pub bump : Bool → ℕ → ℕ
 bump true n = suc n
 bump false n = n
 
+-- a count, element by element
 pub count-cons : {A : Type 0} (f : A → Bool) (x : A) (xs : List A) → length (keep f (x ∷ xs)) ≡ bump (f x) (length (keep f xs))
 unfolding keep
 count-cons f x xs = elim (f x) as (λ b. length (cond b (x ∷ keep f xs) (keep f xs)) ≡ bump b (length (keep f xs))) [ true ↦ refl | false ↦ refl ]
@@ -25,6 +27,7 @@ bump-mono true false m n h l = absurd (false≢true (h refl))
 bump-mono false true m n h l = omega arith
 bump-mono false false m n h l = l
 
+-- a count with one more at the end
 pub keep-end : {A : Type 0} (f : A → Bool) (xs : List A) (y : A) → length (keep f (xs ++ (y ∷ []))) ≡ bump (f y) (length (keep f xs))
 unfolding keep
 keep-end f [] y = count-cons f y []
@@ -60,6 +63,7 @@ change-down {A} p f g (x ∷ xs) = rw (count-cons p x xs) (pick (f x) (change-do
     pick true h = rw (count-cons p (g x) xs) (less (p x) (p (g x)) (length (keep p xs)))
     pick false h = rw (count-cons p x (change f g xs)) (up (p x) _ _ h)
 
+-- none passes, none is kept
 pub keep-nothing : {A : Type 0} (f : A → Bool) (ts : List A) → ((t : A) → In t ts → f t ≡ false) → length (keep f ts) ≤ 0
 unfolding keep
 keep-nothing f [] h = omega arith

@@ -18,6 +18,7 @@ pub keep-no : {A : Type 0} (f : A → Bool) (x : A) (xs : List A) → f x ≡ fa
 unfolding keep
 keep-no f x xs e = rw e
 
+-- what is kept was there, and passes
 pub in-keep : {A : Type 0} (f : A → Bool) (xs : List A) (x : A) → In x (keep f xs) → In x xs × (f x ≡ true)
 unfolding keep
 in-keep f [] x h = absurd h
@@ -28,6 +29,7 @@ in-keep f (y ∷ ys) x h = pick (f y) refl h (λ i. in-keep f ys x i)
     pick true p (inr i) k = (inr (k i .0), k i .1)
     pick false p i k = (inr (k i .0), k i .1)
 
+-- what was there and passes is kept
 pub keep-in : {A : Type 0} (f : A → Bool) (xs : List A) (x : A) → In x xs → f x ≡ true → In x (keep f xs)
 unfolding keep
 keep-in f [] x h e = absurd h
@@ -39,6 +41,7 @@ keep-in f (y ∷ ys) x h e = pick (f y) refl h (λ i. keep-in f ys x i e)
     pick false p (inl q) k = clash (f x) e (ap f q ∙ p)
     pick false p (inr i) k = k i
 
+-- to keep twice is to keep by both tests
 pub keep-keep : {A : Type 0} (f g : A → Bool) (xs : List A) → keep f (keep g xs) ≡ keep (λ (x : A). g x && f x) xs
 unfolding keep
 keep-keep f g [] = refl
@@ -49,6 +52,7 @@ keep-keep f g (x ∷ xs) = pick (g x) (f x) refl refl (keep-keep f g xs)
     pick true false p q e = keep-no f x (keep g xs) q ∙ e
     pick false b p q e = e
 
+-- the first that passes is there, changed
 pub change-hit : {A : Type 0} (f : A → Bool) (g : A → A) (xs : List A) (m : A) (ms : List A) → find f xs ≡ m ∷ ms → In (g m) (change f g xs)
 unfolding find change
 change-hit f g [] m ms e = let z : _≡_ {A = ℕ} 0 1 = cc in absurd (omega arith)
@@ -58,6 +62,7 @@ change-hit {A} f g (x ∷ xs) m ms e = pick (f x) e (λ e′. change-hit f g xs 
     pick true q r = let c : m ≡ x = cc in inl (ap g c)
     pick false q r = inr (r q)
 
+-- what doesn't pass is there as it was
 pub change-miss : {A : Type 0} (f : A → Bool) (g : A → A) (xs : List A) (x : A) → In x xs → f x ≡ false → In x (change f g xs)
 unfolding change
 change-miss f g [] x i e = absurd i

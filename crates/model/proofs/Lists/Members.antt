@@ -4,6 +4,7 @@ use mathlib.Core.Path.{_≡_}
 use mathlib.Core.Logic.{_⊎_, inl, inr}
 use mathlib.Core.List.{List, [], _∷_, _++_, List·Memᴰ, List·Memᴰ·head, List·Memᴰ·tail}
 
+-- membership as a sum: by clauses one sees which element it is
 abbrev pub In : {A : Type 0} → A → List A → Type 0
 In a [] = ⊥
 In a (x ∷ xs) = (a ≡ x) ⊎ In a xs

@@ -19,10 +19,12 @@ pub data Pass {A : Type 0} (D : A → Type 0) (R : A → A → Type 0) : List A 
   goes : {x y : A} {xs ys : List A} → R x y → Pass D R xs ys → Pass D R (x ∷ xs) (y ∷ ys)
 
 module _ {A : Type 0} (D : A → Type 0) (R : A → A → Type 0) where
+  -- nothing changes
   pub pass-same : (xs : List A) → ((x : A) → In x xs → R x x) → Pass D R xs xs
   pass-same [] h = done
   pass-same (x ∷ xs) h = goes (h x (inl refl)) (pass-same xs (λ y i. h y (inr i)))
 
+  -- keep is a pass
   pub pass-keep : (f : A → Bool) (xs : List A) → ((x : A) → In x xs → f x ≡ false → D x) → ((x : A) → In x xs → f x ≡ true → R x x) → Pass D R xs (keep f xs)
   unfolding keep
   pass-keep f [] d r = done
@@ -32,6 +34,7 @@ module _ {A : Type 0} (D : A → Type 0) (R : A → A → Type 0) where
       pick true e p = goes (r x (inl refl) e) p
       pick false e p = gone (d x (inl refl) e) p
 
+  -- change is a pass
   pub pass-change : (f : A → Bool) (g : A → A) (xs : List A) → ((x : A) → In x xs → R x x) → ((x : A) → In x xs → f x ≡ true → R x (g x)) → Pass D R xs (change f g xs)
   unfolding change
   pass-change f g [] s r = done
@@ -41,16 +44,19 @@ module _ {A : Type 0} (D : A → Type 0) (R : A → A → Type 0) where
       pick true e p = goes (r x (inl refl) e) (pass-same xs (λ y i. s y (inr i)))
       pick false e p = goes (s x (inl refl)) p
 
+  -- map is a pass
   pub pass-map : (g : A → A) (xs : List A) → ((x : A) → In x xs → R x (g x)) → Pass D R xs (map g xs)
   pass-map g [] h = done
   pass-map g (x ∷ xs) h = goes (h x (inl refl)) (pass-map g xs (λ y i. h y (inr i)))
 
+  -- one pass after another is a pass
   pub pass-then : ((x y z : A) → R x y → R y z → R x z) → ((x y : A) → R x y → D y → D x) → {xs ys zs : List A} → Pass D R xs ys → Pass D R ys zs → Pass D R xs zs
   pass-then t d done done = done
   pass-then t d (gone h p) q = gone h (pass-then t d p q)
   pass-then t d (goes {x = x} {y = y} h p) (gone k q) = gone (d x y h k) (pass-then t d p q)
   pass-then t d (goes {x = x} {y = y} h p) (goes {y = z} k q) = goes (t x y z h k) (pass-then t d p q)
 
+  -- where an element came from
   pub pass-from : {xs ys : List A} → Pass D R xs ys → (y : A) → In y ys → (x : A) × In x xs × (z : A) × R x z × (y ≡ z)
   pass-from done y h = absurd h
   pass-from (gone k p) y h = let r = pass-from p y h in (r .0, inr (r .1), r .2, r .3, r .4)
@@ -78,6 +84,7 @@ module _ {A : Type 0} (D : A → Type 0) (R : A → A → Type 0) where
   pass-up f d h (gone {x = x} {xs = xs} {ys = ys} k p) = rw (keep-no f x xs (d x k)) (pass-up f d h p)
   pass-up f d h (goes {x = x} {y = y} {xs = xs} {ys = ys} k p) = rw (count-cons f x xs, count-cons f y ys) (bump-mono (f x) (f y) _ _ (h x y k) (pass-up f d h p))
 
+-- what is said of the gone and of those that go on may be weakened
 pub pass-weaken : {A : Type 0} {D E : A → Type 0} {R S : A → A → Type 0} → ((x : A) → D x → E x) → ((x y : A) → R x y → S x y) → {xs ys : List A} → Pass D R xs ys → Pass E S xs ys
 pass-weaken d r done = done
 pass-weaken d r (gone {x = x} h p) = gone (d x h) (pass-weaken d r p)

@@ -62,6 +62,7 @@ takes-less now t m {xs} {ys} p e =
 
 -- THE BEST
 
+-- the best of some is there
 pub best-none : (ms : List Machine) (ts : List Task) → best ms ts ≡ [] → ms ≡ []
 unfolding best
 best-none [] ts e = refl
@@ -75,6 +76,7 @@ best-none (m ∷ ms) ts e = absurd (pick (best ms ts) refl)
     pick [] p = let z : _≡_ {A = ℕ} 0 1 = cc in omega arith
     pick (b ∷ bs) p = solo (ltb (left m ts) (left b ts)) b m (rw (p, best) at e)
 
+-- the best is one of them
 pub best-in : (ms : List Machine) (ts : List Task) (b : Machine) → In b (best ms ts) → In b ms
 unfolding best
 best-in [] ts b h = h
@@ -119,6 +121,7 @@ module _ (now : ℕ) (ms : List Machine) (m : Machine) (mi : In m ms) where
       let c : w ≡ f .0 = f .4 ∙ put-waiting (f .0) (f .2) (f .3) (sym (ap (λ (t : Task). isWaiting (t .phase)) (f .4)) ∙ q .there w (inl refl) .1) in
       clash (isWaiting (f .0 .phase)) (sym (ap (λ (t : Task). isWaiting (t .phase)) c) ∙ q .there w (inl refl) .1) (placed-waits-not 0 (w .id) (b .num) (b .life) ts (q .low) (f .0) (f .1) (sym (ap (λ (t : Task). t .id) c)))
 
+  -- who still waits is taken by no machine
   pub waits-placing : (n : ℕ) (ws ts : List Task) → Queue n ws ts → (t : Task) → In t ws → In t (placeAll now ms ws ts) → takes now t (placeAll now ms ws ts) m ≡ true → ⊥
   unfolding placeAll
   waits-placing n [] ts q t i k h = i

@@ -14,6 +14,7 @@ use Rattle.model.specs.Calls.{Seen}
 use Rattle.model.proofs.Lists.{clash, In, keep-no, keep-in, Pass, done, gone, goes, Once}
 use Rattle.model.proofs.Tasks.{Put, Never}
 
+-- a sum over tasks
 unfoldable pub weigh : (Task → ℕ) → List Task → ℕ
 weigh f [] = 0
 weigh f (t ∷ ts) = f t + weigh f ts
@@ -28,6 +29,7 @@ unfolding memOf weigh
 mem-weigh [] = refl
 mem-weigh (t ∷ ts) = ap (λ n. t .spec .mem + n) (mem-weigh ts)
 
+-- a sum over those that are kept, one by one
 pub weigh-cons : (f : Task → ℕ) (p : Task → Bool) (t : Task) (ts : List Task) → weigh f (keep p (t ∷ ts)) ≡ cond (p t) (f t) 0 + weigh f (keep p ts)
 unfolding weigh keep
 weigh-cons f p t ts = pick (p t)
@@ -39,6 +41,7 @@ weigh-cons f p t ts = pick (p t)
 pub waits-nowhere : (k : ℕ) (t : Task) → isWaiting (t .phase) ≡ true → onMachine k t ≡ false
 waits-nowhere k t e = and-left (not (isWaiting (t .phase))) (eqb k (t .machine)) (ap not e)
 
+-- placing takes nothing off a machine
 pub weigh-up : (f : Task → ℕ) (k : ℕ) {xs ys : List Task} → Pass Never Put xs ys → weigh f (keep (onMachine k) xs) ≤ weigh f (keep (onMachine k) ys)
 weigh-up f k done = omega arith
 weigh-up f k (gone d p) = absurd d

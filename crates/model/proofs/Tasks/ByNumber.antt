@@ -31,11 +31,13 @@ pub rising-low : (m n : ℕ) (ts : List Task) → m ≤ n → Rising n ts → Ri
 rising-low m n [] l r = tt
 rising-low m n (t ∷ ts) l r = (le-trans l (r .0), r .1)
 
+-- all numbers are at least the first
 pub rising-over : (n : ℕ) (ts : List Task) → Rising n ts → (t : Task) → In t ts → n ≤ t .id
 rising-over n [] r t h = absurd h
 rising-over n (u ∷ us) r t (inl e) = let p : t .id ≡ u .id = ap (λ (x : Task). x .id) e in omega arith
 rising-over n (u ∷ us) r t (inr h) = let p : suc (u .id) ≤ t .id = rising-over (suc (u .id)) us (r .1) t h in omega arith
 
+-- one task by a number
 pub rising-one : (n : ℕ) (ts : List Task) → Rising n ts → (t u : Task) → In t ts → In u ts → t .id ≡ u .id → t ≡ u
 rising-one n [] r t u h k e = absurd h
 rising-one n (x ∷ xs) r t u (inl p) (inl q) e = p ∙ sym q
@@ -45,6 +47,7 @@ rising-one n (x ∷ xs) r t u (inr h) (inl q) e =
     let a : u .id ≡ x .id = ap (λ (y : Task). y .id) q in let b : suc (x .id) ≤ t .id = rising-over (suc (x .id)) xs (r .1) t h in absurd (omega arith)
 rising-one n (x ∷ xs) r t u (inr h) (inr k) e = rising-one (suc (x .id)) xs (r .1) t u h k e
 
+-- a pass that keeps numbers keeps the order
 pub rising-pass : (D : Task → Type 0) (R : Task → Task → Type 0) → ((x y : Task) → R x y → y .id ≡ x .id) → (n : ℕ) {xs ys : List Task} → Pass D R xs ys → Rising n xs → Rising n ys
 rising-pass D R h n done r = tt
 rising-pass D R h n (gone {x = x} {ys = ys} k p) r = let l : n ≤ suc (x .id) = omega arith in rising-low n (suc (x .id)) ys l (rising-pass D R h (suc (x .id)) p (r .1))

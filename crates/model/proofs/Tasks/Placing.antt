@@ -44,7 +44,7 @@ place-pass n ts r t i w (m ∷ ms) = pass-change _ _ (isTask (t .id)) (placed (m
     it : (x : Task) → In x ts → isTask (t .id) x ≡ true → x ≡ t
     it x k e = rising-one n ts r x t k i (sym (eqb-true (t .id) (x .id) e))
 
--- in from of Lists, the other way: what isn't t is still there
+-- what isn't t is still there
 pub stays-in : (t : Task) (S : Task → Task → Type 0) {xs ys : List Task} → Pass Never (λ x y. (y ≡ x) ⊎ ((x ≡ t) × S x y)) xs ys → (u : Task) → (u ≡ t → ⊥) → In u xs → In u ys
 stays-in t S done u n i = i
 stays-in t S (gone h p) u n i = absurd h
@@ -58,6 +58,7 @@ pub record Queue (n : ℕ) (ws ts : List Task) : Type 0 where
   pub there : (t : Task) → In t ws → In t ts × (isWaiting (t .phase) ≡ true)
   pub low : Rising 0 ts
 
+-- when the first in line is placed, the others are still in line
 pub queue-next : (n : ℕ) (t : Task) (ws ts : List Task) → Queue n (t ∷ ws) ts → (ms : List Machine) → Queue (suc (t .id)) ws (place t ms ts)
 queue-next n t ws ts q ms = record { rises = q .rises .1; there = λ u i. (stays-in t Places pass u (other u i) (q .there u (inr i) .0), q .there u (inr i) .1); low = rising-pass _ _ ids 0 pass (q .low) }
   where
@@ -71,6 +72,7 @@ queue-next n t ws ts q ms = record { rises = q .rises .1; there = λ u i. (stays
     ids x y (inl e) = ap (λ (z : Task). z .id) e
     ids x y (inr h) = ap (λ (z : Task). z .id) (h .1 .3)
 
+-- placing tells some that wait to machines, and leaves all others
 pub places-pass : (now n : ℕ) (ms : List Machine) (ws ts : List Task) → Queue n ws ts → Pass Never Put ts (placeAll now ms ws ts)
 unfolding placeAll
 places-pass now n ms [] ts q = pass-same Never Put ts (λ x i. inl refl)

@@ -28,6 +28,7 @@ jobless js t = not (some (λ (j : Job). same (j .name) (t .job)) js)
 abbrev pub Ends : Task → Task → Type 0
 Ends x y = (isWaiting (x .phase) ≡ false) × (y ≡ phased Ending x)
 
+-- tasks of wanted jobs stay as they are; of the others, one that waits is gone, one on a machine is ending
 pub orphans-pass : (js : List Job) (ts : List Task) → Pass (λ x. (jobless js x ≡ true) × (isWaiting (x .phase) ≡ true)) (λ x y. (y ≡ x) ⊎ ((jobless js x ≡ true) × Ends x y)) ts (orphansEnd js ts)
 unfolding orphansEnd
 orphans-pass js [] = done
@@ -47,6 +48,7 @@ orphans-pass js (t ∷ ts) = pick (some (λ (j : Job). same (j .name) (t .job)) 
 -- ONE ENDS
 
 module _ (n : ℕ) (ts : List Task) (r : Rising n ts) (t : Task) (i : In t ts) where
+  -- one that waits is gone, one on a machine is ending, and all others stay as they are
   pub ended-pass : (more : List Task) → Pass (λ x. (x ≡ t) × (isWaiting (x .phase) ≡ true)) (λ x y. (y ≡ x) ⊎ ((x ≡ t) × Ends x y)) ts (ended (t ∷ more) ts)
   unfolding ended
   ended-pass more = pick (isWaiting (t .phase)) refl
@@ -71,6 +73,7 @@ abbrev pub MayEnd : State → Job → List Task → Type 0
 MayEnd s j [] = Unit {0}
 MayEnd s j (t ∷ ts) = In t (s .tasks) × (ofJob (j .name) t ≡ true) × ((isReady (t .phase) ≡ false) ⊎ (j .least < length (readyOnes (mine j (s .tasks)))))
 
+-- who is picked to end is of the job, and isn't ready, or more are ready than the least
 pub may-end : (s : State) (j : Job) (ts : List Task) → ((t : Task) → In t ts → In t (mine j (s .tasks))) → MayEnd s j (toEnd s j (mine j (s .tasks)) ts)
 may-end s j ts sub = pick (toEnd s j (mine j (s .tasks)) ts) (λ x i. known x (head-in _ _ x i))
   where
@@ -123,6 +126,7 @@ step-is P j s a b = pick (not (none old)) (ltb (j .count) (length (newOnes j (al
     pick false true = a new (may-end s j _ (part (λ (t : Task). eqb (t .version) (j .version))))
     pick false false = grown [] tt
 
+-- what each job's step keeps, all of them keep
 pub steps-are : (P : State → Type 0) (js : List Job) (s : State) → ((j : Job) → In j js → (u : State) → P u → P (forJob j u)) → P s → P (forJobs js s)
 unfolding forJobs
 steps-are P [] s h p = p

@@ -21,6 +21,7 @@ use Rattle.model.proofs.Keeps.{Sound, Keeps}
 abbrev pub News : Machine → ℕ → ℕ → Type 0
 News m l n = (m .life < l) ⊎ ((m .life ≡ l) × (m .number < n))
 
+-- machine i is there in that life
 abbrev pub At : State → ℕ → ℕ → Machine → Type 0
 At s i l m = In m (s .machines) × (m .num ≡ i) × (m .life ≡ l)
 
@@ -39,6 +40,7 @@ pub record Agrees (s : State) (ws : List Word) (i : ℕ) (a : Agent) : Type 0 wh
 abbrev pub Numbered : List Word → Type 0
 Numbered ws = ((i l n : ℕ) (xs : List Seen) → In (Up i l n xs) ws → 0 < n) × ((i l n : ℕ) (os : List Order) → In (Back i l n os) ws → 0 < n)
 
+-- what holds of all together in every world
 pub record Inv (w : World) : Type 0 where
   pub numbered : Numbered (w .sent)
   pub sound : Sound (w .herd)
@@ -90,6 +92,7 @@ agrees-off s u ws i a nw an ao ar g =
 
 -- ONE AGENT OF MANY
 
+-- what holds of the agent that changed and of each other one holds of all
 pub put-is : (P : ℕ → Agent → Type 0) (i : ℕ) (a : Agent) (f : ℕ → Agent) → P i a → ((j : ℕ) → eqb j i ≡ false → P j (f j)) → (j : ℕ) → P j (put i a f j)
 put-is P i a f h r j = cond-both (eqb j i) a (f j) (P j) (λ e. subst (λ (k : ℕ). P k a) (sym (eqb-true j i e)) h) (λ e. r j e)
 

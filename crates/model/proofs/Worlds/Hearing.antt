@@ -20,6 +20,7 @@ use Rattle.model.proofs.Hold.{OnIt, stay-on, once-machine, on-settle}
 use Rattle.model.proofs.Keeps.{Sound, heard-stay, on-machine}
 use Rattle.model.proofs.Worlds.Agreement.{News, At, Agrees}
 
+-- what a report that is answered leaves
 pub hears-is : (Q : ℕ → List Order → State → Type 0) (i l n : ℕ) (xs : List Seen) (s : State) → ((m : Machine) (ms : List Machine) → find (isMachine i) (s .machines) ≡ m ∷ ms → (ltb l (m .life) || (eqb l (m .life) && leb n (m .number))) ≡ false → let u = settle (heard i l n xs s) in Q n (orders (keep (onMachine i) (u .tasks))) u) → (k : ℕ) (os : List Order) → does (Report i l n xs) s .reply ≡ Run k os → Q k os (does (Report i l n xs) s .state)
 hears-is Q i l n xs s h = does-is P (Report i l n xs) s (λ c k os e. never (cc)) (λ m ms e q k os r. taken k os m ms e q r)
   where
@@ -32,6 +33,7 @@ hears-is Q i l n xs s h = does-is P (Report i l n xs) s (λ c k os e. never (cc)
     taken : (k : ℕ) (os : List Order) (m : Machine) (ms : List Machine) → find (isMachine i) (s .machines) ≡ m ∷ ms → (ltb l (m .life) || (eqb l (m .life) && leb n (m .number))) ≡ false → _≡_ {A = Reply} (Run n (orders (keep (onMachine i) (u .tasks)))) (Run k os) → Q k os u
     taken k os m ms e q r = let a : n ≡ k = cc in let b : orders (keep (onMachine i) (u .tasks)) ≡ os = cc in subst (λ (z : ℕ). Q z os u) a (subst (λ (zs : List Order). Q n zs u) b (h m ms e q))
 
+-- a report that isn't answered leaves all as it was
 pub hears-not : (i l n : ℕ) (xs : List Seen) (s : State) → ((k : ℕ) (os : List Order) → does (Report i l n xs) s .reply ≡ Run k os → ⊥) → s ≡ does (Report i l n xs) s .state
 hears-not i l n xs s = does-is P (Report i l n xs) s (λ c h. refl) (λ m ms e q h. absurd (h n _ refl))
   where
@@ -109,6 +111,7 @@ module _ (s : State) (f : Sound s) (ws : List Word) (i : ℕ) (a : Agent) (g : A
           absurd (eqb-false l (t .life) d (sym (w .1) ∙ (sym (ap (λ (z : Machine). z .life) (is-m (v .0) (v .1) (v .2 ∙ sym (r .1)))) ∙ v .3)))
       pick t j q p w (inr (c, inr d)) = absurd (g .ups l n xs up .2 (w .0) m mi me nw o oj (subst (λ (z : ℕ). seenAs z xs ≡ []) q (d .1)))
 
+  -- the agent whose report is heard still agrees with the herd
   pub agrees-hears : Agrees (settle told) (Back i l n (orders (keep (onMachine i) (settle told .tasks))) ∷ ws) i a
   agrees-hears = record { ups = ups; backs = backs; ordered = λ o oj. let w = live (g .ordered o oj .0) in ((renewed, (new-in, me, w .0)), still o oj); runs = g .runs; once = g .once }
     where

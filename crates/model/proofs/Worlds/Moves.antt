@@ -82,6 +82,7 @@ inv-step h (Step.becomes w i before behind x b e) =
 inv-step h (Step.dies w i before behind x e) =
     record { numbered = h .numbered; sound = h .sound; agents = put-is (λ (j : ℕ) (a : Agent). Agrees (w .herd) (w .sent) j a) i _ (w .agent) (agrees-runs (w .herd) (w .sent) i (w .agent i) _ (subst (λ (zs : List Seen). Pass AnySeen SameId zs (before ++ behind)) (sym e) (pass-behind before (x ∷ behind) behind (gone tt (pass-all behind)))) (h .agents i)) (λ j c. h .agents j) }
 
+-- so it holds in every world that is reached
 pub inv-reach : {w : World} → Reach w → Inv w
 inv-reach Reach.begin = inv-start
 inv-reach (Reach.then r s) = inv-step (inv-reach r) s
