@@ -11,7 +11,7 @@ use Rattle.model.specs.State.{State}
 use Rattle.model.specs.Calls.{Call, SetJob, EndJob, AddMachine, Close, Reopen, Forget, Report, Tick, Show, Reply, No, Out, no, isTick, does}
 use Rattle.model.specs.Promise.{Answers, says-so, not-yet}
 use Rattle.model.specs.Wire.{Bytes, Read, garbled, meant, readName, readMachine, readReport, readTick, readKind, readCall, kindOf, answerTo}
-use Rattle.model.proofs.Lists.{to-true, from-true}
+use Rattle.model.proofs.Lists.Tests.{to-true, from-true}
 use Rattle.model.specs.Lines.{kindIn, isKnown, Said, refuses, callSays, bytesSay, LinesSaySo, NoCallNoChange}
 
 pub no-call-no-change : NoCallNoChange

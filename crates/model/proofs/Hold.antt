@@ -2,43 +2,44 @@
 -- Assumes nothing.
 use mathlib.Core.Path.{_≡_, refl, sym, _∙_, ap, subst}
 use mathlib.Core.Logic.{_⊎_, inl, inr}
-use mathlib.Core.Bool.{Bool, true, false, cond, _&&_, _||_, not}
-use mathlib.Core.List.{List, [], _∷_, _++_, map, List·Memᴰ}
-use Prim.Native.Nat.{ℕ, zero, suc, _+_, _<_, _≤_}
+use mathlib.Core.Bool.{Bool, true, false, cond, _&&_, not}
+use mathlib.Core.List.{List, [], _∷_, _++_}
+use Prim.Native.Nat.{ℕ, suc, _+_, _≤_}
 use native.Mathlib.Omega.{arith}
-use native.Mathlib.Nat.{le-trans, le-refl}
-use lib.Dec.{eqb, ltb, leb, T}
-use lib.ListN.{length}
-use Rattle.std.proofs.shelf.Tests.{true≢false, false≢true, and-parts, and-from, and-left, and-right, not-true, not-false, not-from-false, ltb-true, leb-true, le-leb, eqb-true, eq-eqb, eqb-false, ne-eqb, cond-both}
-use Rattle.model.specs.State.{Name, Machine, Spec, Job, Phase, Waiting, Told, Ready, Ending, Task, State, blank, isWaiting, isReady, isEnding, isTask, isJob, isMachine, ofJob, onMachine, phased, placed, withTasks, withMachines, withJobs, cpuOf, memOf}
-use Rattle.model.specs.Lists.{some, every, keep, find, change, none, same}
-use Rattle.model.specs.Settle.{here, present, takes, best, place, placeAll, ended, fresh, forJob, forJobs, orphansEnd, settle}
-use Rattle.model.specs.Calls.{Seen, Call, SetJob, EndJob, AddMachine, Close, Reopen, Forget, Report, Tick, Show, Out, heardAll, heardFrom, opened, unsure, later, timed, does, down}
-use Rattle.model.proofs.Lists.{to-true, from-true, clash, bool, In, in-from, in-to, in-end, find-none, in-keep, keep-in, keep-no, Pass, done, gone, goes, pass-same, pass-from, pass-keep, pass-change, pass-map, pass-weaken, Once}
-use Rattle.model.proofs.Tasks.{Rising, rising-one, Ends, jobless, orphans-pass, ended-pass, mayGrow, more, MayEnd, step-is, steps-are, Places, Put, Never, Queue, queue-next, queue-of, told-not-waiting}
-use Rattle.model.proofs.Settles.{Tidy, tidy-pass, tidy-step, orphan-id, EndsOne, unplaced, tidy-unplaced, unplaced-alike, settle-pass, Fine}
+use native.Mathlib.Nat.{le-trans}
+use lib.Dec.{eqb, leb}
+use Rattle.std.proofs.shelf.Tests.{and-parts, leb-true, eqb-true, eq-eqb}
+use Rattle.model.specs.State.{Machine, Spec, Job, Phase, Waiting, Ending, Task, State, isWaiting, isTask, ofJob, onMachine, phased, placed, withTasks, cpuOf, memOf}
+use Rattle.model.specs.Lists.{some, every, keep, change, same}
+use Rattle.model.specs.Settle.{here, present, takes, best, place, placeAll, ended, fresh, forJob, orphansEnd, settle, more, unplaced}
+use Rattle.model.proofs.Lists.{clash, In, in-end, keep-no, in-keep, Pass, done, gone, goes, pass-same, pass-change, pass-from, pass-weaken, Once}
+use Rattle.model.proofs.Tasks.{rising-one, Ends, jobless, orphans-pass, ended-pass, MayEnd, step-is, steps-are, Put, Never, Queue, queue-next, queue-of}
+use Rattle.model.proofs.Settles.{Tidy, tidy-pass, tidy-step, orphan-id, EndsOne, unplaced-alike, settle-pass, Fine}
 use Rattle.model.proofs.Room.{weigh, cpu-weigh, mem-weigh, weigh-cons, waits-nowhere, best-in}
-use Rattle.model.proofs.Acts.{newMachine, heard, forgotten, Pre, HeardGone, HeardAs, heard-pass}
 
 -- WHAT HOLDS OF MACHINES AND TASKS
 
-abbrev pub Toldʰ : List Machine → List Task → Type 0
-Toldʰ ms ts = (t : Task) → In t ts → isWaiting (t .phase) ≡ false → (m : Machine) × In m ms × (m .num ≡ t .machine) × (m .life ≡ t .life)
+-- each task that doesn't wait is on a machine that is there, in the life of its agent
+abbrev pub Housed : List Machine → List Task → Type 0
+Housed ms ts = (t : Task) → In t ts → isWaiting (t .phase) ≡ false → (m : Machine) × In m ms × (m .num ≡ t .machine) × (m .life ≡ t .life)
 
-abbrev pub cpu′ : Task → ℕ
-cpu′ t = t .spec .cpu
+abbrev pub cpuNeed : Task → ℕ
+cpuNeed t = t .spec .cpu
 
-abbrev pub mem′ : Task → ℕ
-mem′ t = t .spec .mem
+abbrev pub memNeed : Task → ℕ
+memNeed t = t .spec .mem
 
-abbrev pub Roomʰ : List Machine → List Task → Type 0
-Roomʰ ms ts = (m : Machine) → In m ms → (weigh cpu′ (here m ts) ≤ m .cpu) × (weigh mem′ (here m ts) ≤ m .mem)
+-- what is on a machine fits there
+abbrev pub Fitting : List Machine → List Task → Type 0
+Fitting ms ts = (m : Machine) → In m ms → (weigh cpuNeed (here m ts) ≤ m .cpu) × (weigh memNeed (here m ts) ≤ m .mem)
 
+-- a task of number k is on machine i
 abbrev pub OnIt : List Task → ℕ → ℕ → Type 0
 OnIt ts i k = (t : Task) × In t ts × (t .id ≡ k) × (onMachine i t ≡ true)
 
 -- PASSES THAT LEAVE TASKS WHERE THEY ARE
 
+-- a task stays where it is
 abbrev pub Stay : Task → Task → Type 0
 Stay x y = (y .id ≡ x .id) × (isWaiting (y .phase) ≡ isWaiting (x .phase)) × (y .machine ≡ x .machine) × (y .life ≡ x .life) × (y .spec ≡ x .spec)
 
@@ -57,7 +58,7 @@ ending-waits-not = refl
 pub stay-ends : (x y : Task) → Ends x y → Stay x y
 stay-ends x y h = stay-phase x y Ending (ending-waits-not ∙ sym (h .0)) (h .1)
 
-pub told-stay : (D : Task → Type 0) (ms : List Machine) {xs ys : List Task} → Pass D Stay xs ys → Toldʰ ms xs → Toldʰ ms ys
+pub told-stay : (D : Task → Type 0) (ms : List Machine) {xs ys : List Task} → Pass D Stay xs ys → Housed ms xs → Housed ms ys
 told-stay D ms p h t i w =
     let f = pass-from D Stay p t i in
     let m = h (f .0) (f .1) (sym (f .3 .1) ∙ (sym (ap (λ (x : Task). isWaiting (x .phase)) (f .4)) ∙ w)) in
@@ -72,9 +73,9 @@ weigh-stay D g h k (goes {x = x} {y = y} {xs = xs} {ys = ys} r p) =
     let e : cond (onMachine k y) (g y) 0 ≡ cond (onMachine k x) (g x) 0 = ap (λ (b : Bool). cond b (g y) 0) (stay-on k x y r) ∙ ap (λ (n : ℕ). cond (onMachine k x) n 0) (h x y r) in
     rw (weigh-cons g (onMachine k) x xs, weigh-cons g (onMachine k) y ys, e) (omega arith)
 
-pub room-stay : (D : Task → Type 0) (ms : List Machine) {xs ys : List Task} → Pass D Stay xs ys → Roomʰ ms xs → Roomʰ ms ys
+pub room-stay : (D : Task → Type 0) (ms : List Machine) {xs ys : List Task} → Pass D Stay xs ys → Fitting ms xs → Fitting ms ys
 room-stay D ms p h m i =
-    (le-trans (weigh-stay D cpu′ (λ x y r. ap (λ (s : Spec). s .cpu) (r .4)) (m .num) p) (h m i .0), le-trans (weigh-stay D mem′ (λ x y r. ap (λ (s : Spec). s .mem) (r .4)) (m .num) p) (h m i .1))
+    (le-trans (weigh-stay D cpuNeed (λ x y r. ap (λ (s : Spec). s .cpu) (r .4)) (m .num) p) (h m i .0), le-trans (weigh-stay D memNeed (λ x y r. ap (λ (s : Spec). s .mem) (r .4)) (m .num) p) (h m i .1))
 
 -- what is on a machine goes on there
 pub on-pass : (D : Task → Type 0) (R : Task → Task → Type 0) (i : ℕ) → ((x : Task) → D x → onMachine i x ≡ false) → ((x y : Task) → R x y → onMachine i x ≡ true → (y .id ≡ x .id) × (onMachine i y ≡ true)) → (k : ℕ) {xs ys : List Task} → Pass D R xs ys → OnIt xs i k → OnIt ys i k
@@ -112,7 +113,7 @@ weigh-placed g k k′ l t h (x ∷ xs) u = pick (isTask (t .id) x) refl (weigh-p
     pick false e i = rw (weigh-cons g (onMachine k) x (change (isTask (t .id)) (placed k′ l) xs), weigh-cons g (onMachine k) x xs) (omega arith)
 
 module _ (now : ℕ) (ms : List Machine) (one : Once (λ (a b : Machine). eqb (a .num) (b .num)) ms) where
-  place-ok : (n : ℕ) (t : Task) (ws ts : List Task) → Queue n (t ∷ ws) ts → (bs : List Machine) → best (keep (takes now t ts) ms) ts ≡ bs → Toldʰ ms ts → Roomʰ ms ts → Toldʰ ms (place t bs ts) × Roomʰ ms (place t bs ts)
+  place-ok : (n : ℕ) (t : Task) (ws ts : List Task) → Queue n (t ∷ ws) ts → (bs : List Machine) → best (keep (takes now t ts) ms) ts ≡ bs → Housed ms ts → Fitting ms ts → Housed ms (place t bs ts) × Fitting ms (place t bs ts)
   unfolding place
   place-ok n t ws ts q [] e h r = (h, r)
   place-ok n t ws ts q (b ∷ bs) e h r = (told, room)
@@ -126,7 +127,7 @@ module _ (now : ℕ) (ms : List Machine) (one : Once (λ (a b : Machine). eqb (a
       R : Task → Task → Type 0
       R x y = (y ≡ x) ⊎ (y ≡ placed (b .num) (b .life) x)
 
-      told : Toldʰ ms (change (isTask (t .id)) (placed (b .num) (b .life)) ts)
+      told : Housed ms (change (isTask (t .id)) (placed (b .num) (b .life)) ts)
       told y i w =
           let f = pass-from Never R (pass-change Never R (isTask (t .id)) (placed (b .num) (b .life)) ts (λ x k. inl refl) (λ x k g. inr refl)) y i in
           pick (f .0) (f .1) (f .2) (f .3) (f .4)
@@ -146,14 +147,14 @@ module _ (now : ℕ) (ms : List Machine) (one : Once (λ (a b : Machine). eqb (a
       add g true a w v x p q s = let q′ : v + a ≤ x = q refl in omega arith
       add g false a w v x p q s = omega arith
 
-      room : Roomʰ ms (change (isTask (t .id)) (placed (b .num) (b .life)) ts)
+      room : Fitting ms (change (isTask (t .id)) (placed (b .num) (b .life)) ts)
       room m i =
           let same : eqb (m .num) (b .num) ≡ true → b ≡ m = λ e. sym (once-machine ms one m b i (picked .0) (eqb-true (m .num) (b .num) e)) in (
-            add cpu′ (eqb (m .num) (b .num)) (cpu′ t) _ (weigh cpu′ (here m ts)) (m .cpu) (weigh-placed cpu′ (m .num) (b .num) (b .life) t (λ x. refl) ts it) (λ e. subst (λ (x : Machine). weigh cpu′ (here x ts) + cpu′ t ≤ x .cpu) (same e) (subst (λ (x : ℕ). x + cpu′ t ≤ b .cpu) (cpu-weigh (here b ts)) (fits .0))) (r m i .0),
-            add mem′ (eqb (m .num) (b .num)) (mem′ t) _ (weigh mem′ (here m ts)) (m .mem) (weigh-placed mem′ (m .num) (b .num) (b .life) t (λ x. refl) ts it) (λ e. subst (λ (x : Machine). weigh mem′ (here x ts) + mem′ t ≤ x .mem) (same e) (subst (λ (x : ℕ). x + mem′ t ≤ b .mem) (mem-weigh (here b ts)) (fits .1))) (r m i .1),
+            add cpuNeed (eqb (m .num) (b .num)) (cpuNeed t) _ (weigh cpuNeed (here m ts)) (m .cpu) (weigh-placed cpuNeed (m .num) (b .num) (b .life) t (λ x. refl) ts it) (λ e. subst (λ (x : Machine). weigh cpuNeed (here x ts) + cpuNeed t ≤ x .cpu) (same e) (subst (λ (x : ℕ). x + cpuNeed t ≤ b .cpu) (cpu-weigh (here b ts)) (fits .0))) (r m i .0),
+            add memNeed (eqb (m .num) (b .num)) (memNeed t) _ (weigh memNeed (here m ts)) (m .mem) (weigh-placed memNeed (m .num) (b .num) (b .life) t (λ x. refl) ts it) (λ e. subst (λ (x : Machine). weigh memNeed (here x ts) + memNeed t ≤ x .mem) (same e) (subst (λ (x : ℕ). x + memNeed t ≤ b .mem) (mem-weigh (here b ts)) (fits .1))) (r m i .1),
           )
 
-  places-ok : (n : ℕ) (ws ts : List Task) → Queue n ws ts → Toldʰ ms ts → Roomʰ ms ts → Toldʰ ms (placeAll now ms ws ts) × Roomʰ ms (placeAll now ms ws ts)
+  places-ok : (n : ℕ) (ws ts : List Task) → Queue n ws ts → Housed ms ts → Fitting ms ts → Housed ms (placeAll now ms ws ts) × Fitting ms (placeAll now ms ws ts)
   unfolding placeAll
   places-ok n [] ts q h r = (h, r)
   places-ok n (t ∷ ws) ts q h r =
@@ -171,8 +172,8 @@ weigh-end g k (x ∷ xs) t e =
     let i : weigh g (keep (onMachine k) (xs ++ (t ∷ []))) ≤ weigh g (keep (onMachine k) xs) = weigh-end g k xs t e in
     rw (weigh-cons g (onMachine k) x (xs ++ (t ∷ [])), weigh-cons g (onMachine k) x xs) (omega arith)
 
-abbrev Held′ : List Machine → State → Type 0
-Held′ ms u = Tidy u × Toldʰ ms (u .tasks) × Roomʰ ms (u .tasks)
+abbrev HeldIn : List Machine → State → Type 0
+HeldIn ms u = Tidy u × Housed ms (u .tasks) × Fitting ms (u .tasks)
 
 ends-stay : (t x y : Task) → EndsOne t x y → Stay x y
 ends-stay t x y (inl e) = stay-eq x y e
@@ -183,48 +184,50 @@ orphan-stay js x y (inl e) = stay-eq x y e
 orphan-stay js x y (inr h) = stay-ends x y (h .1)
 
 -- a step's own ends leave what is on machines there
-abbrev WaitsD : Task → Type 0
-WaitsD x = isWaiting (x .phase) ≡ true
+abbrev WasWaiting : Task → Type 0
+WasWaiting x = isWaiting (x .phase) ≡ true
 
-pub ended-stay : (j : Job) (s : State) → Tidy s → (xs : List Task) → MayEnd s j xs → Pass WaitsD Stay (s .tasks) (ended xs (s .tasks))
+pub ended-stay : (j : Job) (s : State) → Tidy s → (xs : List Task) → MayEnd s j xs → Pass WasWaiting Stay (s .tasks) (ended xs (s .tasks))
 unfolding ended
-ended-stay j s h [] m = pass-same WaitsD Stay (s .tasks) (λ x i. stay-eq x x refl)
+ended-stay j s h [] m = pass-same WasWaiting Stay (s .tasks) (λ x i. stay-eq x x refl)
 ended-stay j s h (t ∷ ts) m = pass-weaken (λ x d. d .1) (ends-stay t) (ended-pass 0 (s .tasks) (h .0) t (m .0) ts)
 
-pub orphans-stay : (js : List Job) (ts : List Task) → Pass WaitsD Stay ts (orphansEnd js ts)
+pub orphans-stay : (js : List Job) (ts : List Task) → Pass WasWaiting Stay ts (orphansEnd js ts)
 orphans-stay js ts = pass-weaken (λ x d. d .1) (orphan-stay js) (orphans-pass js ts)
 
 module _ (ms : List Machine) where
-  told-more : (j : Job) (u : State) → Toldʰ ms (u .tasks) → Toldʰ ms (more j u .tasks)
+  told-more : (j : Job) (u : State) → Housed ms (u .tasks) → Housed ms (more j u .tasks)
   told-more j u h t i w = pick (in-end t (fresh j (u .nextId)) (u .tasks) i)
     where
       pick : In t (u .tasks) ⊎ (t ≡ fresh j (u .nextId)) → (m : Machine) × In m ms × (m .num ≡ t .machine) × (m .life ≡ t .life)
       pick (inl k) = h t k w
       pick (inr e) = clash (isWaiting (t .phase)) (ap (λ (x : Task). isWaiting (x .phase)) e ∙ waiting-waits) w
 
-  room-more : (j : Job) (u : State) → Roomʰ ms (u .tasks) → Roomʰ ms (more j u .tasks)
+  room-more : (j : Job) (u : State) → Fitting ms (u .tasks) → Fitting ms (more j u .tasks)
   room-more j u r m i =
       let e : onMachine (m .num) (fresh j (u .nextId)) ≡ false = waits-nowhere (m .num) (fresh j (u .nextId)) waiting-waits in
-      (le-trans (weigh-end cpu′ (m .num) (u .tasks) (fresh j (u .nextId)) e) (r m i .0), le-trans (weigh-end mem′ (m .num) (u .tasks) (fresh j (u .nextId)) e) (r m i .1))
+      (le-trans (weigh-end cpuNeed (m .num) (u .tasks) (fresh j (u .nextId)) e) (r m i .0), le-trans (weigh-end memNeed (m .num) (u .tasks) (fresh j (u .nextId)) e) (r m i .1))
 
-  hold-ended : (j : Job) (u : State) → Held′ ms u → (xs : List Task) → MayEnd u j xs → Toldʰ ms (ended xs (u .tasks)) × Roomʰ ms (ended xs (u .tasks))
-  hold-ended j u h xs m = let p = ended-stay j u (h .0) xs m in (told-stay WaitsD ms p (h .1), room-stay WaitsD ms p (h .2))
+  hold-ended : (j : Job) (u : State) → HeldIn ms u → (xs : List Task) → MayEnd u j xs → Housed ms (ended xs (u .tasks)) × Fitting ms (ended xs (u .tasks))
+  hold-ended j u h xs m = let p = ended-stay j u (h .0) xs m in (told-stay WasWaiting ms p (h .1), room-stay WasWaiting ms p (h .2))
 
-  hold-step : (j : Job) (u : State) → Held′ ms u → Held′ ms (forJob j u)
+  hold-step : (j : Job) (u : State) → HeldIn ms u → HeldIn ms (forJob j u)
   hold-step j u h =
-      let q = step-is (λ (v : State). Toldʰ ms (v .tasks) × Roomʰ ms (v .tasks)) j u (hold-ended j u h) (λ xs m g. let p = hold-ended j u h xs m in let v = withTasks (ended xs (u .tasks)) u in (told-more j v (p .0), room-more j v (p .1))) in
+      let q = step-is (λ (v : State). Housed ms (v .tasks) × Fitting ms (v .tasks)) j u (hold-ended j u h) (λ xs m g. let p = hold-ended j u h xs m in let v = withTasks (ended xs (u .tasks)) u in (told-more j v (p .0), room-more j v (p .1))) in
       (tidy-step j u (h .0), q .0, q .1)
 
-pub hold-settle : (s : State) → Fine s → Toldʰ (s .machines) (s .tasks) → Roomʰ (s .machines) (s .tasks) → Toldʰ (s .machines) (settle s .tasks) × Roomʰ (s .machines) (settle s .tasks)
+-- a pass keeps tasks on machines that are there, and fitting
+pub hold-settle : (s : State) → Fine s → Housed (s .machines) (s .tasks) → Fitting (s .machines) (s .tasks) → Housed (s .machines) (settle s .tasks) × Fitting (s .machines) (settle s .tasks)
 hold-settle s f h r =
     let ms = s .machines in
     let o = orphans-stay (s .jobs) (s .tasks) in
-    let p : Held′ ms (unplaced s) = steps-are (Held′ ms) (s .jobs) (withTasks (orphansEnd (s .jobs) (s .tasks)) s) (λ j i u q. hold-step ms j u q) (tidy-pass _ _ (orphan-id (s .jobs)) s (orphans-pass (s .jobs) (s .tasks)) (f .tidy), told-stay WaitsD ms o h, room-stay WaitsD ms o r) in
+    let p : HeldIn ms (unplaced s) = steps-are (HeldIn ms) (s .jobs) (withTasks (orphansEnd (s .jobs) (s .tasks)) s) (λ j i u q. hold-step ms j u q) (tidy-pass _ _ (orphan-id (s .jobs)) s (orphans-pass (s .jobs) (s .tasks)) (f .tidy), told-stay WasWaiting ms o h, room-stay WasWaiting ms o r) in
     let u = unplaced s in
     let e : u .machines ≡ ms = unplaced-alike s .1 in
-    let P : List Machine → Type 0 = λ xs. Toldʰ ms (placeAll (u .now) xs (keep (λ (t : Task). isWaiting (t .phase)) (u .tasks)) (u .tasks)) × Roomʰ ms (placeAll (u .now) xs (keep (λ (t : Task). isWaiting (t .phase)) (u .tasks)) (u .tasks)) in
+    let P : List Machine → Type 0 = λ xs. Housed ms (placeAll (u .now) xs (keep (λ (t : Task). isWaiting (t .phase)) (u .tasks)) (u .tasks)) × Fitting ms (placeAll (u .now) xs (keep (λ (t : Task). isWaiting (t .phase)) (u .tasks)) (u .tasks)) in
     subst P (sym e) (places-ok (u .now) ms (f .machines) 0 _ (u .tasks) (queue-of (u .tasks) (p .0 .0)) (p .1) (p .2))
 
+-- what is on a machine is there after a pass
 pub on-settle : (s : State) → Tidy s → (i k : ℕ) → OnIt (s .tasks) i k → OnIt (settle s .tasks) i k
 on-settle s h i k o = on-pass Never Put i (λ x d. absurd d) puts k (settle-pass s h) (all .1)
   where
@@ -247,10 +250,10 @@ on-settle s h i k o = on-pass Never Put i (λ x d. absurd d) puts k (settle-pass
             go (x ∷ xs) (inr j′) = inr (go xs j′)
 
     ending : (j : Job) (u : State) → P u → (xs : List Task) → MayEnd u j xs → OnIt (ended xs (u .tasks)) i k
-    ending j u p xs m = on-stay WaitsD i (λ x d. waits-nowhere i x d) k (ended-stay j u (p .0) xs m) (p .1)
+    ending j u p xs m = on-stay WasWaiting i (λ x d. waits-nowhere i x d) k (ended-stay j u (p .0) xs m) (p .1)
 
     step : (j : Job) (u : State) → P u → P (forJob j u)
     step j u p = (tidy-step j u (p .0), step-is (λ (v : State). OnIt (v .tasks) i k) j u (ending j u p) (λ xs m g. end (ended xs (u .tasks)) (fresh j (u .nextId)) (ending j u p xs m)))
 
     all : P (unplaced s)
-    all = steps-are P (s .jobs) (withTasks (orphansEnd (s .jobs) (s .tasks)) s) (λ j i′ u p. step j u p) (tidy-pass _ _ (orphan-id (s .jobs)) s (orphans-pass (s .jobs) (s .tasks)) h, on-stay WaitsD i (λ x d. waits-nowhere i x d) k (orphans-stay (s .jobs) (s .tasks)) o)
+    all = steps-are P (s .jobs) (withTasks (orphansEnd (s .jobs) (s .tasks)) s) (λ j i′ u p. step j u p) (tidy-pass _ _ (orphan-id (s .jobs)) s (orphans-pass (s .jobs) (s .tasks)) h, on-stay WasWaiting i (λ x d. waits-nowhere i x d) k (orphans-stay (s .jobs) (s .tasks)) o)

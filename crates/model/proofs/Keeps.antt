@@ -2,57 +2,57 @@
 -- Assumes nothing.
 use mathlib.Core.Path.{_≡_, refl, sym, _∙_, ap, subst}
 use mathlib.Core.Logic.{_⊎_, inl, inr}
-use mathlib.Core.Bool.{Bool, true, false, cond, _&&_, _||_, not}
-use mathlib.Core.List.{List, [], _∷_, _++_, map, List·Memᴰ}
-use Prim.Native.Nat.{ℕ, zero, suc, _+_, _<_, _≤_}
+use mathlib.Core.Bool.{Bool, true, false, cond, _&&_, not}
+use mathlib.Core.List.{List, [], _∷_, map}
+use Prim.Native.Nat.{ℕ, _≤_}
 use native.Mathlib.Omega.{arith}
-use native.Mathlib.Nat.{le-trans, le-refl}
-use lib.Dec.{eqb, ltb, leb, T}
-use lib.ListN.{length}
-use Rattle.std.proofs.shelf.Tests.{true≢false, false≢true, and-parts, and-from, and-left, and-right, not-true, not-false, not-from-false, ltb-true, leb-true, le-leb, eqb-true, eq-eqb, eqb-false, ne-eqb, cond-both}
-use Rattle.model.specs.State.{Name, Machine, Spec, Job, Phase, Waiting, Told, Ready, Ending, Task, State, blank, isWaiting, isReady, isEnding, isTask, isJob, isMachine, ofJob, onMachine, phased, placed, withTasks, withMachines, withJobs, cpuOf, memOf}
-use Rattle.model.specs.Lists.{some, every, keep, find, change, none, same}
+use native.Mathlib.Nat.{le-trans}
+use lib.Dec.{eqb}
+use Rattle.std.proofs.shelf.Tests.{false≢true, and-parts, and-from, not-true, not-false, eqb-true, eq-eqb, eqb-false, ne-eqb, cond-both}
+use Rattle.model.specs.State.{Machine, Phase, Waiting, Told, Ready, Ending, Task, State, isWaiting, isReady, isMachine, onMachine, phased}
+use Rattle.model.specs.Lists.{keep, find, change}
 use Rattle.model.specs.Settle.{here, settle}
-use Rattle.model.specs.Calls.{Seen, Call, SetJob, EndJob, AddMachine, Close, Reopen, Forget, Report, Tick, Show, Out, heardAll, heardFrom, opened, unsure, later, timed, does, down}
-use Rattle.model.proofs.Lists.{to-true, from-true, clash, bool, In, in-from, in-to, in-end, find-none, in-keep, keep-in, keep-no, Pass, done, gone, goes, pass-same, pass-from, pass-keep, pass-change, pass-map, pass-weaken, Once}
+use Rattle.model.specs.Calls.{Seen, Call, SetJob, EndJob, AddMachine, Close, Reopen, Forget, Report, Tick, Show, heardAll, heardFrom, opened, unsure, later, does, down, newMachine, heard, forgotten}
+use Rattle.model.proofs.Lists.{clash, bool, In, in-end, in-left, find-none, find-in, in-keep, keep-in, change-hit, change-miss, Pass, done, gone, goes, pass-same, pass-keep, pass-change, pass-map, pass-from, pass-weaken}
 use Rattle.model.proofs.Tasks.{Never, told-not-waiting}
 use Rattle.model.proofs.Settles.{Tidy, tidy-settle, unplaced-alike, Fine}
 use Rattle.model.proofs.Room.{weigh}
-use Rattle.model.proofs.Acts.{newMachine, heard, forgotten, Pre, does-keeps, HeardGone, HeardAs, heard-pass, fine-settle, fine-pre, fine-down}
-use Rattle.model.proofs.Hold.{Toldʰ, Roomʰ, cpu′, mem′, OnIt, Stay, stay-eq, stay-phase, stay-on, told-stay, room-stay, on-pass, on-stay, hold-settle, on-settle}
+use Rattle.model.proofs.Acts.{Pre, does-keeps, HeardGone, HeardAs, heard-pass, fine-settle, fine-pre, fine-down}
+use Rattle.model.proofs.Hold.{Housed, Fitting, cpuNeed, memNeed, OnIt, Stay, stay-eq, stay-phase, stay-on, told-stay, room-stay, on-pass, on-stay, hold-settle, on-settle}
 
 -- MACHINES THAT STAY AS THEY ARE, BUT FOR BEING OPEN OR HEARD OF
 
+-- a machine stays as it is, but for being open or heard of
 abbrev pub Firm : Machine → Machine → Type 0
 Firm x y = (y .num ≡ x .num) × (y .life ≡ x .life) × (y .number ≡ x .number) × (y .cpu ≡ x .cpu) × (y .mem ≡ x .mem)
 
-abbrev pub NoM : Machine → Type 0
-NoM x = ⊥
+abbrev pub NoMachine : Machine → Type 0
+NoMachine x = ⊥
 
 firm-refl : (x : Machine) → Firm x x
 firm-refl x = (refl, refl, refl, refl, refl)
 
-pub firm-to : {xs ys : List Machine} → Pass NoM Firm xs ys → (x : Machine) → In x xs → (y : Machine) × In y ys × Firm x y
+pub firm-to : {xs ys : List Machine} → Pass NoMachine Firm xs ys → (x : Machine) → In x xs → (y : Machine) × In y ys × Firm x y
 firm-to done x i = absurd i
 firm-to (gone d p) x i = absurd d
 firm-to (goes {y = y} r p) x (inl e) = (y, inl refl, subst (λ (z : Machine). Firm z y) (sym e) r)
 firm-to (goes r p) x (inr i) = let q = firm-to p x i in (q .0, inr (q .1), q .2)
 
-pub firm-from : {xs ys : List Machine} → Pass NoM Firm xs ys → (y : Machine) → In y ys → (x : Machine) × In x xs × Firm x y
-firm-from p y i = let f = pass-from NoM Firm p y i in (f .0, f .1, subst (λ (z : Machine). Firm (f .0) z) (sym (f .4)) (f .3))
+pub firm-from : {xs ys : List Machine} → Pass NoMachine Firm xs ys → (y : Machine) → In y ys → (x : Machine) × In x xs × Firm x y
+firm-from p y i = let f = pass-from NoMachine Firm p y i in (f .0, f .1, subst (λ (z : Machine). Firm (f .0) z) (sym (f .4)) (f .3))
 
-told-firm : {xs ys : List Machine} → Pass NoM Firm xs ys → (ts : List Task) → Toldʰ xs ts → Toldʰ ys ts
+told-firm : {xs ys : List Machine} → Pass NoMachine Firm xs ys → (ts : List Task) → Housed xs ts → Housed ys ts
 told-firm p ts h t i w = let m = h t i w in let f = firm-to p (m .0) (m .1) in (f .0, f .1, f .2 .0 ∙ m .2, f .2 .1 ∙ m .3)
 
-room-firm : {xs ys : List Machine} → Pass NoM Firm xs ys → (ts : List Task) → Roomʰ xs ts → Roomʰ ys ts
+room-firm : {xs ys : List Machine} → Pass NoMachine Firm xs ys → (ts : List Task) → Fitting xs ts → Fitting ys ts
 room-firm p ts r y i =
     let f = firm-from p y i in let q = r (f .0) (f .1) in (
-      subst (λ (c : ℕ). weigh cpu′ (here y ts) ≤ c) (sym (f .2 .3)) (subst (λ (k : ℕ). weigh cpu′ (keep (onMachine k) ts) ≤ f .0 .cpu) (sym (f .2 .0)) (q .0)),
-      subst (λ (c : ℕ). weigh mem′ (here y ts) ≤ c) (sym (f .2 .4)) (subst (λ (k : ℕ). weigh mem′ (keep (onMachine k) ts) ≤ f .0 .mem) (sym (f .2 .0)) (q .1)),
+      subst (λ (c : ℕ). weigh cpuNeed (here y ts) ≤ c) (sym (f .2 .3)) (subst (λ (k : ℕ). weigh cpuNeed (keep (onMachine k) ts) ≤ f .0 .cpu) (sym (f .2 .0)) (q .0)),
+      subst (λ (c : ℕ). weigh memNeed (here y ts) ≤ c) (sym (f .2 .4)) (subst (λ (k : ℕ). weigh memNeed (keep (onMachine k) ts) ≤ f .0 .mem) (sym (f .2 .0)) (q .1)),
     )
 
-opened-firm : (k : ℕ) (b : Bool) (ms : List Machine) → Pass NoM Firm ms (change (isMachine k) (opened b) ms)
-opened-firm k b ms = pass-change NoM Firm (isMachine k) (opened b) ms (λ x i. firm-refl x) (λ x i e. (refl, refl, refl, refl, refl))
+opened-firm : (k : ℕ) (b : Bool) (ms : List Machine) → Pass NoMachine Firm ms (change (isMachine k) (opened b) ms)
+opened-firm k b ms = pass-change NoMachine Firm (isMachine k) (opened b) ms (λ x i. firm-refl x) (λ x i e. (refl, refl, refl, refl, refl))
 
 -- TASKS THAT ARE NO LONGER KNOWN TO BE READY
 
@@ -75,39 +75,10 @@ timed-stay now ms ts = pass-map Never Stay (unsure now ms) ts (λ x i. unsure-st
 down-stay : (ts : List Task) → Pass Never Stay ts (map (λ (t : Task). cond (isReady (t .phase)) (phased Told t) t) ts)
 down-stay ts = pass-map Never Stay (λ (t : Task). cond (isReady (t .phase)) (phased Told t) t) ts (λ t i. cond-both (isReady (t .phase)) (phased Told t) t (Stay t) (λ e. told-stays t true (and-from _ _ e refl)) (λ _. stay-eq t t refl))
 
-down-firm : (s : State) → Pass NoM Firm (s .machines) (down s .machines)
-down-firm s = pass-map NoM Firm _ (s .machines) (λ x i. (refl, refl, refl, refl, refl))
+down-firm : (s : State) → Pass NoMachine Firm (s .machines) (down s .machines)
+down-firm s = pass-map NoMachine Firm _ (s .machines) (λ x i. (refl, refl, refl, refl, refl))
 
 -- A REPORT
-
-pub find-in : {A : Type 0} (f : A → Bool) (xs : List A) (m : A) (ms : List A) → find f xs ≡ m ∷ ms → In m xs × (f m ≡ true)
-unfolding find
-find-in f [] m ms e = let z : _≡_ {A = ℕ} 0 1 = cc in absurd (omega arith)
-find-in {A} f (x ∷ xs) m ms e = pick (f x) refl e (λ e′. find-in f xs m ms e′)
-  where
-    pick : (b : Bool) → f x ≡ b → cond b (x ∷ []) (find f xs) ≡ m ∷ ms → (find f xs ≡ m ∷ ms → In m xs × (f m ≡ true)) → In m (x ∷ xs) × (f m ≡ true)
-    pick true p q r = let c : m ≡ x = cc in (inl c, ap f c ∙ p)
-    pick false p q r = let w = r q in (inr (w .0), w .1)
-
-pub change-hit : {A : Type 0} (f : A → Bool) (g : A → A) (xs : List A) (m : A) (ms : List A) → find f xs ≡ m ∷ ms → In (g m) (change f g xs)
-unfolding find change
-change-hit f g [] m ms e = let z : _≡_ {A = ℕ} 0 1 = cc in absurd (omega arith)
-change-hit {A} f g (x ∷ xs) m ms e = pick (f x) e (λ e′. change-hit f g xs m ms e′)
-  where
-    pick : (b : Bool) → cond b (x ∷ []) (find f xs) ≡ m ∷ ms → (find f xs ≡ m ∷ ms → In (g m) (change f g xs)) → In (g m) (cond b (g x ∷ xs) (x ∷ change f g xs))
-    pick true q r = let c : m ≡ x = cc in inl (ap g c)
-    pick false q r = inr (r q)
-
-change-miss : {A : Type 0} (f : A → Bool) (g : A → A) (xs : List A) (x : A) → In x xs → f x ≡ false → In x (change f g xs)
-unfolding change
-change-miss f g [] x i e = absurd i
-change-miss f g (y ∷ ys) x i e = pick (f y) refl i (λ j. change-miss f g ys x j e)
-  where
-    pick : (b : Bool) → f y ≡ b → In x (y ∷ ys) → (In x ys → In x (change f g ys)) → In x (cond b (g y ∷ ys) (y ∷ change f g ys))
-    pick true p (inl q) r = clash (f x) (ap f q ∙ p) e
-    pick true p (inr j) r = inr j
-    pick false p (inl q) r = inl q
-    pick false p (inr j) r = inr (r j)
 
 pub heard-stay : (k l : ℕ) (x y : Task) → HeardAs k l x y → Stay x y
 heard-stay k l x y (inl h) = stay-eq x y (h .1)
@@ -120,7 +91,7 @@ not-on : (k : ℕ) (t : Task) → onMachine k t ≡ false → isWaiting (t .phas
 not-on k t e w = elim (bool (eqb k (t .machine))) [ inl p ↦ clash (onMachine k t) (and-from _ _ (ap not w) p) e | inr p ↦ p ]
 
 pub heard-firm : (k l n now : ℕ) (ms : List Machine) → (y : Machine) → In y (change (isMachine k) (heardFrom l n now) ms) → (x : Machine) × In x ms × (y .num ≡ x .num) × (y .cpu ≡ x .cpu) × (y .mem ≡ x .mem) × ((y ≡ x) ⊎ ((isMachine k x ≡ true) × (y .life ≡ l) × (y .number ≡ n)))
-heard-firm k l n now ms y i = let f = pass-from NoM R (pass-change NoM R (isMachine k) (heardFrom l n now) ms (λ x j. inl refl) (λ x j e. inr (e, refl))) y i in pick (f .0) (f .1) (f .2) (f .3) (f .4)
+heard-firm k l n now ms y i = let f = pass-from NoMachine R (pass-change NoMachine R (isMachine k) (heardFrom l n now) ms (λ x j. inl refl) (λ x j e. inr (e, refl))) y i in pick (f .0) (f .1) (f .2) (f .3) (f .4)
   where
     R : Machine → Machine → Type 0
     R x z = (z ≡ x) ⊎ ((isMachine k x ≡ true) × (z ≡ heardFrom l n now x))
@@ -129,7 +100,7 @@ heard-firm k l n now ms y i = let f = pass-from NoM R (pass-change NoM R (isMach
     pick x j z (inl p) q = let c = q ∙ p in (x, j, ap (λ (m : Machine). m .num) c, ap (λ (m : Machine). m .cpu) c, ap (λ (m : Machine). m .mem) c, inl c)
     pick x j z (inr p) q = let c = q ∙ p .1 in (x, j, ap (λ (m : Machine). m .num) c, ap (λ (m : Machine). m .cpu) c, ap (λ (m : Machine). m .mem) c, inr (p .0, ap (λ (m : Machine). m .life) c, ap (λ (m : Machine). m .number) c))
 
-told-heard : (k l n : ℕ) (xs : List Seen) (s : State) (m : Machine) (ms : List Machine) → find (isMachine k) (s .machines) ≡ m ∷ ms → Toldʰ (s .machines) (s .tasks) → Toldʰ (heard k l n xs s .machines) (heard k l n xs s .tasks)
+told-heard : (k l n : ℕ) (xs : List Seen) (s : State) (m : Machine) (ms : List Machine) → find (isMachine k) (s .machines) ≡ m ∷ ms → Housed (s .machines) (s .tasks) → Housed (heard k l n xs s .machines) (heard k l n xs s .tasks)
 told-heard k l n xs s m ms e h t i w = let f = pass-from _ _ (heard-pass k l xs (s .tasks)) t i in pick (f .0) (f .1) (f .2) (f .3) (f .4)
   where
     pick : (x : Task) → In x (s .tasks) → (z : Task) → HeardAs k l x z → t ≡ z → (v : Machine) × In v (heard k l n xs s .machines) × (v .num ≡ t .machine) × (v .life ≡ t .life)
@@ -140,31 +111,27 @@ told-heard k l n xs s m ms e h t i w = let f = pass-from _ _ (heard-pass k l xs 
         let c = q ∙ p .4 in
         (heardFrom l n (s .now) m, change-hit (isMachine k) (heardFrom l n (s .now)) (s .machines) m ms e, (sym (eqb-true k (m .num) (find-in (isMachine k) (s .machines) m ms e .1)) ∙ on-machine k x (p .0) .1) ∙ sym (ap (λ (u : Task). u .machine) c), eqb-true l (x .life) (p .1) ∙ sym (ap (λ (u : Task). u .life) c))
 
-room-heard : (k l n : ℕ) (xs : List Seen) (s : State) → Roomʰ (s .machines) (s .tasks) → Roomʰ (heard k l n xs s .machines) (heard k l n xs s .tasks)
+room-heard : (k l n : ℕ) (xs : List Seen) (s : State) → Fitting (s .machines) (s .tasks) → Fitting (heard k l n xs s .machines) (heard k l n xs s .tasks)
 room-heard k l n xs s r y i =
     let ts = heardAll k l xs (s .tasks) in
-    let r′ : Roomʰ (s .machines) ts = room-stay _ (s .machines) (pass-weaken (λ x d. d) (heard-stay k l) (heard-pass k l xs (s .tasks))) r in
+    let r′ : Fitting (s .machines) ts = room-stay _ (s .machines) (pass-weaken (λ x d. d) (heard-stay k l) (heard-pass k l xs (s .tasks))) r in
     let f = heard-firm k l n (s .now) (s .machines) y i in let q = r′ (f .0) (f .1) in (
-      subst (λ (c : ℕ). weigh cpu′ (here y ts) ≤ c) (sym (f .3)) (subst (λ (j : ℕ). weigh cpu′ (keep (onMachine j) ts) ≤ f .0 .cpu) (sym (f .2)) (q .0)),
-      subst (λ (c : ℕ). weigh mem′ (here y ts) ≤ c) (sym (f .4)) (subst (λ (j : ℕ). weigh mem′ (keep (onMachine j) ts) ≤ f .0 .mem) (sym (f .2)) (q .1)),
+      subst (λ (c : ℕ). weigh cpuNeed (here y ts) ≤ c) (sym (f .3)) (subst (λ (j : ℕ). weigh cpuNeed (keep (onMachine j) ts) ≤ f .0 .cpu) (sym (f .2)) (q .0)),
+      subst (λ (c : ℕ). weigh memNeed (here y ts) ≤ c) (sym (f .4)) (subst (λ (j : ℕ). weigh memNeed (keep (onMachine j) ts) ≤ f .0 .mem) (sym (f .2)) (q .1)),
     )
 
 -- THE HERD'S OWN PART
 
+-- what holds of the herd alone in every world
 pub record Sound (s : State) : Type 0 where
   pub fine : Fine s
-  pub told : Toldʰ (s .machines) (s .tasks)
-  pub room : Roomʰ (s .machines) (s .tasks)
+  pub told : Housed (s .machines) (s .tasks)
+  pub room : Fitting (s .machines) (s .tasks)
 
 pub sound-settle : (s : State) → Sound s → Sound (settle s)
 sound-settle s f =
     let p = hold-settle s (f .fine) (f .told) (f .room) in let e = sym (unplaced-alike s .1) in
-    record { fine = fine-settle s (f .fine); told = subst (λ (ms : List Machine). Toldʰ ms (settle s .tasks)) e (p .0); room = subst (λ (ms : List Machine). Roomʰ ms (settle s .tasks)) e (p .1) }
-
-in-left : {A : Type 0} (xs : List A) (y x : A) → In x xs → In x (xs ++ (y ∷ []))
-in-left [] y x i = absurd i
-in-left (z ∷ zs) y x (inl e) = inl e
-in-left (z ∷ zs) y x (inr i) = inr (in-left zs y x i)
+    record { fine = fine-settle s (f .fine); told = subst (λ (ms : List Machine). Housed ms (settle s .tasks)) e (p .0); room = subst (λ (ms : List Machine). Fitting ms (settle s .tasks)) e (p .1) }
 
 weigh-nothing : (g : Task → ℕ) (k : ℕ) (ts : List Task) → ((t : Task) → In t ts → onMachine k t ≡ false) → weigh g (keep (onMachine k) ts) ≤ 0
 unfolding keep weigh
@@ -172,7 +139,7 @@ weigh-nothing g k [] h = omega arith
 weigh-nothing g k (t ∷ ts) h = rw (h t (inl refl)) (weigh-nothing g k ts (λ x i. h x (inr i)))
 
 -- on a machine that isn't there is nothing
-pub nothing-there : (ms : List Machine) (ts : List Task) → Toldʰ ms ts → (k : ℕ) → ((m : Machine) → In m ms → isMachine k m ≡ false) → (t : Task) → In t ts → onMachine k t ≡ false
+pub nothing-there : (ms : List Machine) (ts : List Task) → Housed ms ts → (k : ℕ) → ((m : Machine) → In m ms → isMachine k m ≡ false) → (t : Task) → In t ts → onMachine k t ≡ false
 nothing-there ms ts h k n t i =
     elim (bool (onMachine k t)) [ inl p ↦ let q = on-machine k t p in let m = h t i (q .0) in clash (isMachine k (m .0)) (eq-eqb k (m .0 .num) (q .1 ∙ sym (m .2))) (n (m .0) (m .1)) | inr p ↦ p ]
 
@@ -184,12 +151,12 @@ sound-pre (AddMachine k c m tags) s f = λ e. record { fine = fine-pre (AddMachi
     new : Machine
     new = newMachine k c m tags
 
-    pick : find (isMachine k) (s .machines) ≡ [] → (x : Machine) → In x (s .machines) ⊎ (x ≡ new) → (weigh cpu′ (here x (s .tasks)) ≤ x .cpu) × (weigh mem′ (here x (s .tasks)) ≤ x .mem)
+    pick : find (isMachine k) (s .machines) ≡ [] → (x : Machine) → In x (s .machines) ⊎ (x ≡ new) → (weigh cpuNeed (here x (s .tasks)) ≤ x .cpu) × (weigh memNeed (here x (s .tasks)) ≤ x .mem)
     pick e x (inl i) = f .room x i
     pick e x (inr p) =
         let z = nothing-there (s .machines) (s .tasks) (f .told) k (find-none (isMachine k) (s .machines) e) in
-        let P : Machine → Type 0 = λ y. (weigh cpu′ (here y (s .tasks)) ≤ y .cpu) × (weigh mem′ (here y (s .tasks)) ≤ y .mem) in
-        subst P (sym p) (le-trans (weigh-nothing cpu′ k (s .tasks) z) (omega arith), le-trans (weigh-nothing mem′ k (s .tasks) z) (omega arith))
+        let P : Machine → Type 0 = λ y. (weigh cpuNeed (here y (s .tasks)) ≤ y .cpu) × (weigh memNeed (here y (s .tasks)) ≤ y .mem) in
+        subst P (sym p) (le-trans (weigh-nothing cpuNeed k (s .tasks) z) (omega arith), le-trans (weigh-nothing memNeed k (s .tasks) z) (omega arith))
 sound-pre (Close k) s f = let p = opened-firm k false (s .machines) in record { fine = fine-pre (Close k) s (f .fine); told = told-firm p (s .tasks) (f .told); room = room-firm p (s .tasks) (f .room) }
 sound-pre (Reopen k) s f = let p = opened-firm k true (s .machines) in record { fine = fine-pre (Reopen k) s (f .fine); told = told-firm p (s .tasks) (f .told); room = room-firm p (s .tasks) (f .room) }
 sound-pre (Forget k) s f = record { fine = fine-pre (Forget k) s (f .fine); told = told; room = λ m i. r m (in-keep (λ (x : Machine). not (isMachine k x)) (s .machines) m i .0) }
@@ -197,10 +164,10 @@ sound-pre (Forget k) s f = record { fine = fine-pre (Forget k) s (f .fine); told
     g : Task → Bool
     g t = not (onMachine k t)
 
-    r : Roomʰ (s .machines) (keep g (s .tasks))
+    r : Fitting (s .machines) (keep g (s .tasks))
     r = room-stay (λ x. Unit {0}) (s .machines) (pass-keep _ _ g (s .tasks) (λ x i e. tt) (λ x i e. stay-eq x x refl)) (f .room)
 
-    told : Toldʰ (keep (λ (m : Machine). not (isMachine k m)) (s .machines)) (keep g (s .tasks))
+    told : Housed (keep (λ (m : Machine). not (isMachine k m)) (s .machines)) (keep g (s .tasks))
     told t i w =
         let q = in-keep g (s .tasks) t i in let v = f .told t (q .0) w in
         (v .0, keep-in (λ (m : Machine). not (isMachine k m)) (s .machines) (v .0) (v .1) (ap not (ap (eqb k) (v .2) ∙ not-on k t (not-true _ (q .1)) w)), v .2, v .3)
@@ -209,9 +176,11 @@ sound-pre (Tick t) s f =
     let p = timed-stay (later t (s .now)) (s .machines) (s .tasks) in record { fine = fine-pre (Tick t) s (f .fine); told = told-stay Never (s .machines) p (f .told); room = room-stay Never (s .machines) p (f .room) }
 sound-pre (Show n) s f = tt
 
+-- calls keep it
 pub sound-does : (c : Call) (s : State) → Sound s → Sound (does c s .state)
 sound-does c s f = does-keeps Sound sound-settle c s f (sound-pre c s f)
 
+-- so does the dark
 pub sound-down : (s : State) → Sound s → Sound (down s)
 sound-down s f =
     let p = down-firm s in let q = down-stay (s .tasks) in
@@ -237,14 +206,14 @@ keeps-settle i s u t h =
       tasks = λ k o. on-settle u t i k (h .tasks k o);
     }
 
-keeps-firm : (i : ℕ) (s u : State) → Pass NoM Firm (s .machines) (u .machines) → ((k : ℕ) → OnIt (s .tasks) i k → OnIt (u .tasks) i k) → Keeps i s u
+keeps-firm : (i : ℕ) (s u : State) → Pass NoMachine Firm (s .machines) (u .machines) → ((k : ℕ) → OnIt (s .tasks) i k → OnIt (u .tasks) i k) → Keeps i s u
 keeps-firm i s u p h = record { on = λ m j e. let f = firm-to p m j in (f .0, f .1, f .2 .0 ∙ e, f .2 .1, f .2 .2); off = λ v j e. let f = firm-from p v j in inl (f .0, f .1, sym (f .2 .0) ∙ e, sym (f .2 .1), sym (f .2 .2)); tasks = h }
 
 pub keeps-down : (i : ℕ) (s : State) → Keeps i s (down s)
 keeps-down i s = keeps-firm i s (down s) (down-firm s) (λ k o. on-stay Never i (λ x d. absurd d) k (down-stay (s .tasks)) o)
 
 keeps-same : (i : ℕ) (s u : State) → u .machines ≡ s .machines → ((k : ℕ) → OnIt (s .tasks) i k → OnIt (u .tasks) i k) → Keeps i s u
-keeps-same i s u e h = keeps-firm i s u (subst (λ (ms : List Machine). Pass NoM Firm (s .machines) ms) (sym e) (pass-same NoM Firm (s .machines) (λ x j. firm-refl x))) h
+keeps-same i s u e h = keeps-firm i s u (subst (λ (ms : List Machine). Pass NoMachine Firm (s .machines) ms) (sym e) (pass-same NoMachine Firm (s .machines) (λ x j. firm-refl x))) h
 
 abbrev Going : ℕ → State → State → Type 0
 Going i s u = Tidy u × Keeps i s u
@@ -267,6 +236,7 @@ keeps-pre i (Report k l n xs) s f nr nf = absurd (nr k l n xs refl)
 keeps-pre i (Tick t) s f nr nf = (fine-pre (Tick t) s f .tidy, keeps-same i s _ refl (λ k o. on-stay Never i (λ x d. absurd d) k (timed-stay (later t (s .now)) (s .machines) (s .tasks)) o))
 keeps-pre i (Show n) s f nr nf = tt
 
+-- what a person or the clock says keeps what an agent counts on
 pub keeps-does : (i : ℕ) (c : Call) (s : State) → Fine s → ((k l n : ℕ) (xs : List Seen) → c ≡ Report k l n xs → ⊥) → ((k : ℕ) → c ≡ Forget k → ⊥) → Keeps i s (does c s .state)
 keeps-does i c s f nr nf = does-keeps (Going i s) (λ u p. (tidy-settle u (p .0), keeps-settle i s u (p .0) (p .1))) c s (f .tidy, keeps-refl i s) (keeps-pre i c s f nr nf) .1
 

@@ -5,10 +5,15 @@ pub mod Acts
 pub mod Keeps
 pub mod Hold
 pub mod Room
+pub mod Least
 pub mod Most
 pub mod Worlds
 pub mod Runs
 pub mod Rights
 pub mod Kin
-pub mod Within
-pub mod Cases
+pub mod Numbers
+pub mod Ordered
+pub mod Waits
+pub mod Replies
+pub mod Over
+pub mod Worked

@@ -1,9 +1,9 @@
--- Of every run: what a right code does is what may happen.
+-- Of every run of right code: what happened may happen, and only words that there are were used.
 -- Assumes nothing.
-use mathlib.Core.Path.{_≡_, refl, sym, subst}
+use mathlib.Core.Path.{_≡_, sym, subst}
 use mathlib.Core.Logic.{_⊎_, inl, inr}
-use mathlib.Core.List.{List, [], _∷_}
-use Rattle.model.specs.Memory.{Memory, blankMemory, comesTo, leaves, Halfway, Code, Meant, Right, Happens, answered, cutIn, cutElse, Stand, asleep, awake, Run, MayHappen, RightIsRight}
+use mathlib.Core.List.{List, _∷_}
+use Rattle.model.specs.Memory.{Memory, Fits, Code, Meant, Right, Happens, cutIn, Stand, asleep, awake, Run, MayHappen, RightIsRight}
 
 module _ (C R : Type 0) (j : Meant C R) (e : Code C R) (r : Right j e) (twice : (s : j .State) → j .dark (j .dark s) ≡ j .dark s) (first : j .dark (j .start) ≡ j .start) where
   abbrev Holds : List (Happens C R) → Stand (e .Mind) → Type 0
@@ -30,3 +30,7 @@ right-is-right C R j e r twice first es x q = pick x (holds C R j e r twice firs
     pick : (y : Stand (e .Mind)) → Holds C R j e r twice first es y → (s : j .State) × MayHappen j es s
     pick (asleep m) h = (h .0, h .1)
     pick (awake z m) h = (h .0, h .1)
+
+-- wherever a run has come, the next call uses only words that there are
+pub right-fits : (C R : Type 0) (j : Meant C R) (e : Code C R) → Right j e → ((s : j .State) → j .dark (j .dark s) ≡ j .dark s) → (j .dark (j .start) ≡ j .start) → (es : List (Happens C R)) (x : e .Mind) (m : Memory) (c : C) → Run e es (awake x m) → Fits (e .does c x) m
+right-fits C R j e r twice first es x m c q = let h = holds C R j e r twice first q in r .answers x m (h .0) c (h .2) .0

@@ -1,25 +1,25 @@
--- A pass keeps tasks by rising numbers, and the ready ones that are to stay.
+-- A pass keeps tasks by rising numbers below the next; and what a good state is, in the form in which proofs have it.
 -- Assumes nothing.
-use mathlib.Core.Path.{_≡_, refl, sym, _∙_, ap, subst}
+use mathlib.Core.Path.{_≡_, refl, sym, _∙_, ap}
 use mathlib.Core.Logic.{_⊎_, inl, inr}
-use mathlib.Core.Bool.{Bool, true, false, cond, _&&_, _||_, not}
-use mathlib.Core.List.{List, [], _∷_, _++_, map, List·Memᴰ}
-use Prim.Native.Nat.{ℕ, zero, suc, _+_, _<_, _≤_}
+use mathlib.Core.Bool.{true, not}
+use mathlib.Core.List.{List, [], _∷_}
+use Prim.Native.Nat.{_+_, _<_}
 use native.Mathlib.Omega.{arith}
-use native.Mathlib.Nat.{le-trans, le-refl}
-use lib.Dec.{eqb, ltb, leb, T}
-use lib.ListN.{length}
-use Rattle.std.proofs.shelf.Tests.{true≢false, false≢true, and-parts, and-from, and-left, and-right, not-true, ltb-true, lt-ltb, leb-true, le-leb}
-use Rattle.model.specs.State.{Name, Machine, Job, Phase, Waiting, Told, Ready, Ending, Task, State, isWaiting, isReady, isEnding, isTask, isJob, isMachine, ofJob, phased, placed, withTasks}
-use Rattle.model.specs.Lists.{some, every, keep, find, change, same}
-use Rattle.model.specs.Settle.{mine, readyOnes, ended, fresh, forJob, forJobs, orphansEnd, placeAll, settle}
-use Rattle.model.specs.Promise.{onceJobs, onceMachines, risingTasks, Good, LeastStay}
-use Rattle.model.proofs.Lists.{to-true, from-true, clash, bool, In, in-from, in-end, every-at, every-from, some-from, some-not, not-some, keep-keep, keep-end, Pass, done, gone, goes, pass-same, pass-from, pass-up, pass-down, pass-weaken, change-down, bump, Once, not-to-false}
-use Rattle.model.proofs.Tasks.{same-eq, same-sym, same-refl, eq-same, Rising, rising-from, rising-to, rising-pass, rising-end, waiting-not-ready, jobless, Ends, orphans-pass, ended-pass, mayGrow, more, MayEnd, step-is, steps-are, Put, put-id, Never, places-pass, queue-of}
+use lib.Dec.{eqb, ltb}
+use Rattle.std.proofs.shelf.Tests.{and-parts, and-from, not-true, ltb-true, lt-ltb}
+use Rattle.model.specs.State.{Machine, Job, Task, State, isJob, isMachine, withTasks}
+use Rattle.model.specs.Lists.{some, same}
+use Rattle.model.specs.Settle.{ended, fresh, forJob, settle, more, unplaced}
+use Rattle.model.specs.Promise.{onceJobs, onceMachines, Good}
+use Rattle.model.proofs.Lists.{to-true, from-true, clash, In, in-end, every-at, every-from, some-not, not-some, Pass, pass-from, Once}
+use Rattle.model.proofs.Tasks.{same-sym, Rising, rising-from, rising-to, rising-pass, rising-end, jobless, Ends, orphans-pass, ended-pass, MayEnd, step-is, steps-are, Put, put-id, Never, places-pass, queue-of}
 
+-- tasks by rising numbers, all below the next
 abbrev pub Tidy : State → Type 0
 Tidy s = Rising 0 (s .tasks) × ((t : Task) → In t (s .tasks) → t .id < s .nextId)
 
+-- a pass that keeps numbers keeps tasks tidy
 pub tidy-pass : (D : Task → Type 0) (R : Task → Task → Type 0) → ((x y : Task) → R x y → y .id ≡ x .id) → (s : State) {ts : List Task} → Pass D R (s .tasks) ts → Tidy s → Tidy (withTasks ts s)
 tidy-pass D R ids s {ts} p h = (rising-pass D R ids 0 p (h .0), λ t i. low t i)
   where
@@ -54,19 +54,17 @@ pub orphan-id : (js : List Job) (x y : Task) → (y ≡ x) ⊎ ((jobless js x �
 orphan-id js x y (inl e) = ap (λ (z : Task). z .id) e
 orphan-id js x y (inr h) = ap (λ (z : Task). z .id) (h .1 .1)
 
--- what settling has before it places
-abbrev pub unplaced : State → State
-unplaced s = forJobs (s .jobs) (withTasks (orphansEnd (s .jobs) (s .tasks)) s)
-
 pub tidy-unplaced : (s : State) → Tidy s → Tidy (unplaced s)
 tidy-unplaced s h = steps-are Tidy (s .jobs) _ (λ j i u k. tidy-step j u k) (tidy-pass _ _ (orphan-id (s .jobs)) s (orphans-pass (s .jobs) (s .tasks)) h)
 
 abbrev pub Alike : State → State → Type 0
 Alike s u = (u .now ≡ s .now) × (u .machines ≡ s .machines) × (u .jobs ≡ s .jobs)
 
+-- a pass leaves the time, the machines and the jobs as they are
 pub unplaced-alike : (s : State) → Alike s (unplaced s)
 unplaced-alike s = steps-are (Alike s) (s .jobs) _ (λ j i u k. step-is (Alike s) j u (λ xs m. k) (λ xs m g. k)) (refl, refl, refl)
 
+-- the second half of a pass, by what it does to tasks
 pub settle-pass : (s : State) → Tidy s → Pass Never Put (unplaced s .tasks) (settle s .tasks)
 settle-pass s h = let u = unplaced s in places-pass (u .now) 0 (u .machines) _ (u .tasks) (queue-of (u .tasks) (tidy-unplaced s h .0))
 
@@ -95,6 +93,7 @@ unfolding onceMachines
 machines-to [] o = refl
 machines-to (m ∷ ms) o = and-from (not (some (isMachine (m .num)) ms)) (onceMachines ms) (ap not (not-some (isMachine (m .num)) ms (o .0))) (machines-to ms (o .1))
 
+-- one job by a name
 pub once-job : (js : List Job) → Once (λ (a b : Job). same (a .name) (b .name)) js → (a b : Job) → In a js → In b js → same (a .name) (b .name) ≡ true → a ≡ b
 once-job [] o a b i k e = absurd i
 once-job (j ∷ js) o a b (inl p) (inl q) e = p ∙ sym q
@@ -104,6 +103,7 @@ once-job (j ∷ js) o a b (inr i) (inr k) e = once-job js (o .1) a b i k e
 
 -- GOOD
 
+-- a good state, in the form in which proofs have it
 pub record Fine (s : State) : Type 0 where
   pub jobs : Once (λ (a b : Job). same (a .name) (b .name)) (s .jobs)
   pub machines : Once (λ (a b : Machine). eqb (a .num) (b .num)) (s .machines)
@@ -124,102 +124,3 @@ fine-to s f = (
   from-true _ (rising-to 0 (s .tasks) (f .tidy .0)),
   from-true _ (every-from (λ (x : Task). ltb (x .id) (s .nextId)) (s .tasks) (λ t i. lt-ltb (t .id) (s .nextId) (f .tidy .1 t i))),
 )
-
--- THE LEAST STAY
-
-abbrev pub readyOf : Job → Task → Bool
-readyOf j t = ofJob (j .name) t && isReady (t .phase)
-
-pub readies-are : (j : Job) (ts : List Task) → length (readyOnes (mine j ts)) ≡ length (keep (readyOf j) ts)
-readies-are j ts = ap length (keep-keep (λ (t : Task). isReady (t .phase)) (ofJob (j .name)) ts)
-
-abbrev pub readies : Job → State → ℕ
-readies j s = length (keep (readyOf j) (s .tasks))
-
-not-ready : (j : Job) (t : Task) → isReady (t .phase) ≡ false → readyOf j t ≡ false
-not-ready j t e = and-right (ofJob (j .name) t) (isReady (t .phase)) e
-
-ready-not-waiting : (p : Phase) → isReady p ≡ true → isWaiting p ≡ false
-ready-not-waiting p e = elim (bool (isWaiting p)) [ inl w ↦ clash (isReady p) e (waiting-not-ready p w) | inr w ↦ w ]
-
-ended-one : (t : Task) (more′ ts : List Task) → isWaiting (t .phase) ≡ false → ended (t ∷ more′) ts ≡ change (isTask (t .id)) (phased Ending) ts
-unfolding ended
-ended-one t more′ ts e = rw e
-
-waiting-unready : isReady Waiting ≡ false
-waiting-unready = refl
-
-more-readies : (j k : Job) (s : State) → readies j (more k s) ≡ readies j s
-more-readies j k s = keep-end (readyOf j) (s .tasks) (fresh k (s .nextId)) ∙ ap (λ b. bump b (readies j s)) (not-ready j (fresh k (s .nextId)) waiting-unready)
-
--- one ends that isn't one of j's ready ones
-ended-spares : (j k : Job) (s : State) → Tidy s → (t : Task) (xs : List Task) → MayEnd s k (t ∷ xs) → readyOf j t ≡ false → readies j s ≤ readies j (withTasks (ended (t ∷ xs) (s .tasks)) s)
-ended-spares j k s h t xs m e = pass-up _ _ (readyOf j) (λ x d. not-ready j x (waiting-not-ready (x .phase) (d .1))) stays (ended-pass 0 (s .tasks) (h .0) t (m .0) xs)
-  where
-    stays : (x y : Task) → EndsOne t x y → readyOf j x ≡ true → readyOf j y ≡ true
-    stays x y (inl p) q = ap (readyOf j) p ∙ q
-    stays x y (inr p) q = clash (readyOf j t) (sym (ap (readyOf j) (p .0)) ∙ q) e
-
-least-ended : (j k : Job) (s : State) → Tidy s → (same (j .name) (k .name) ≡ true → k ≡ j) → (xs : List Task) → MayEnd s k xs → let u = withTasks (ended xs (s .tasks)) s in (readies j s ≤ readies j u) ⊎ (j .least ≤ readies j u)
-unfolding ended
-least-ended j k s h one [] m = inl (le-refl _)
-least-ended j k s h one (t ∷ xs) m = pick (readyOf j t) refl (m .2)
-  where
-    u : State
-    u = withTasks (ended (t ∷ xs) (s .tasks)) s
-
-    pick : (b : Bool) → readyOf j t ≡ b → (isReady (t .phase) ≡ false) ⊎ (k .least < length (readyOnes (mine k (s .tasks)))) → (readies j s ≤ readies j u) ⊎ (j .least ≤ readies j u)
-    pick false e o = inl (ended-spares j k s h t xs m e)
-    pick true e (inl o) = clash (isReady (t .phase)) (and-parts (ofJob (j .name) t) (isReady (t .phase)) e .1) o
-    pick true e (inr o) =
-        let p = and-parts (ofJob (j .name) t) (isReady (t .phase)) e in
-        let n : same (j .name) (k .name) ≡ true = eq-same (j .name) (k .name) (same-eq (j .name) (t .job) (p .0) ∙ sym (same-eq (k .name) (t .job) (m .1))) in
-        let o′ : j .least < readies j s = subst (λ (x : Job). x .least < readies x s) (one n) (subst (λ (z : ℕ). k .least < z) (readies-are k (s .tasks)) o) in
-        let c : readies j s ≤ suc (length (keep (readyOf j) (change (isTask (t .id)) (phased Ending) (s .tasks)))) = change-down (readyOf j) (isTask (t .id)) (phased Ending) (s .tasks) in
-        let c′ : readies j s ≤ suc (readies j u) = rw (ended-one t xs (s .tasks) (ready-not-waiting (t .phase) (p .1))) c in
-        inr (omega arith)
-
-pub least-step : (j k : Job) (s : State) → Tidy s → (same (j .name) (k .name) ≡ true → k ≡ j) → (readies j s ≤ readies j (forJob k s)) ⊎ (j .least ≤ readies j (forJob k s))
-least-step j k s h one = step-is (λ (u : State). (readies j s ≤ readies j u) ⊎ (j .least ≤ readies j u)) k s (least-ended j k s h one) (λ xs m g. rw (more-readies j k (withTasks (ended xs (s .tasks)) s)) (least-ended j k s h one xs m))
-
-pub least-stay : LeastStay
-least-stay s j g i′ f =
-    rw (readies-are j (settle s .tasks), readies-are j (s .tasks)) (finish (least-jobs .1))
-  where
-    fine : Fine s
-    fine = fine-from s g
-
-    i : In j (s .jobs)
-    i = in-from i′
-
-    first : State
-    first = withTasks (orphansEnd (s .jobs) (s .tasks)) s
-
-    kept : (x y : Task) → (y ≡ x) ⊎ ((jobless (s .jobs) x ≡ true) × Ends x y) → readyOf j x ≡ true → readyOf j y ≡ true
-    kept x y (inl p) q = ap (readyOf j) p ∙ q
-    kept x y (inr p) q = clash (some (λ (k : Job). same (k .name) (x .job)) (s .jobs)) (some-from (λ (k : Job). same (k .name) (x .job)) (s .jobs) j i (and-parts (ofJob (j .name) x) (isReady (x .phase)) q .0)) (not-true _ (p .0))
-
-    orphans : readies j s ≤ readies j first
-    orphans = pass-up _ _ (readyOf j) (λ x d. not-ready j x (waiting-not-ready (x .phase) (d .1))) kept (orphans-pass (s .jobs) (s .tasks))
-
-    P : State → Type 0
-    P u = Tidy u × ((j .least ≤ readies j u) ⊎ (readies j s ≤ readies j u))
-
-    join : (a b c d : ℕ) → (c ≤ a) ⊎ (d ≤ a) → (a ≤ b) ⊎ (c ≤ b) → (c ≤ b) ⊎ (d ≤ b)
-    join a b c d o (inr p) = inl p
-    join a b c d (inl q) (inl p) = inl (le-trans q p)
-    join a b c d (inr q) (inl p) = inr (le-trans q p)
-
-    least-jobs : P (unplaced s)
-    least-jobs = steps-are P (s .jobs) first (λ k ki u p. (tidy-step k u (p .0), join (readies j u) (readies j (forJob k u)) (j .least) (readies j s) (p .1) (least-step j k u (p .0) (λ e. sym (once-job (s .jobs) (fine .jobs) j k i ki e))))) (tidy-pass _ _ (orphan-id (s .jobs)) s (orphans-pass (s .jobs) (s .tasks)) (fine .tidy), inr orphans)
-
-    puts : (x y : Task) → Put x y → readyOf j x ≡ true → readyOf j y ≡ true
-    puts x y (inl p) q = ap (readyOf j) p ∙ q
-    puts x y (inr p) q = clash (isReady (x .phase)) (and-parts (ofJob (j .name) x) (isReady (x .phase)) q .1) (waiting-not-ready (x .phase) (p .0))
-
-    placing : readies j (unplaced s) ≤ readies j (settle s)
-    placing = pass-up _ _ (readyOf j) (λ x d. absurd d) puts (settle-pass s (fine .tidy))
-
-    finish : (j .least ≤ readies j (unplaced s)) ⊎ (readies j s ≤ readies j (unplaced s)) → (j .least ≤ readies j (settle s)) ⊎ (readies j s ≤ readies j (settle s))
-    finish (inl p) = inl (le-trans p placing)
-    finish (inr p) = inr (le-trans p placing)

@@ -8,3 +8,5 @@ pub mod Right
 pub mod Promise
 pub mod Wire
 pub mod Lines
+pub mod Always
+pub mod Cases

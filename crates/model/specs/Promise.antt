@@ -12,7 +12,8 @@ use Rattle.model.specs.State.{Name, Machine, Spec, Job, Task, State, blank, is
 use Rattle.model.specs.Settle.{settle, here, takes, readyOnes, mine}
 use Rattle.model.specs.Calls.{Seen, Call, SetJob, Reply, No, does, down, core}
 use Rattle.model.specs.World.{World, Reach}
-use Rattle.model.specs.Memory.{Code, Meant, Right}
+use Rattle.model.specs.Memory.{Memory, done, Code, Meant, Right}
+use Rattle.model.specs.Right.{RightBy, RunsRight, RunsFit, Darkens}
 
 -- OF THE HERD'S OWN MACHINE
 
@@ -31,6 +32,26 @@ Whole can e = Right (herd can) e
 abbrev pub CoreWhole : Code Call Reply → Type 1
 CoreWhole e = Whole core e
 
+-- going dark twice is going dark once, and at the beginning the dark changes nothing, whatever is built
+abbrev pub DarkOnce : Type 0
+DarkOnce = (can : Call → Bool) → Darkens (herd can)
+
+-- the code that has built nothing yet, and answers every call by 12: it is right for that, and so are its runs. (That what is said of right code can be met, and can stand in a contract.)
+abbrev pub nothing : Call → Bool
+nothing c = false
+
+abbrev pub silent : Code Call Reply
+silent = record { Mind = Unit {0}; wakes = done tt; does = λ c x. done (record { reply = No 12; mind = tt }) }
+
+abbrev pub BlankTold : Memory → State → Type 0
+BlankTold m s = s ≡ blank
+
+abbrev pub BlankAwake : Unit {0} → Memory → State → Type 0
+BlankAwake x m s = s ≡ blank
+
+abbrev pub SilentRight : Type 0
+SilentRight = RightBy (herd nothing) silent BlankTold BlankAwake × RunsRight (herd nothing) silent × RunsFit silent
+
 -- OF ALL TOGETHER, at every moment of every run, with agents by their rules, over lines that lose, double, delay and reorder, and with machines and the herd falling at any time
 
 abbrev pub ran : World → ℕ → List Seen
@@ -44,6 +65,13 @@ seenIn i (x ∷ xs) = eqb i (x .id) || seenIn i xs
 abbrev pub NeverTooMuch : Type 0
 NeverTooMuch =
     (w : World) → Reach w → (i : ℕ) (m : Machine) → List·Memᴰ m (w .herd .machines) → m .num ≡ i → (m .life ≡ w .agent i .life) →
+    ((x : Seen) → List·Memᴰ x (ran w i) → T (some (λ (t : Task). eqb (t .id) (x .id)) (here m (w .herd .tasks)))) ×
+    (cpuOf (here m (w .herd .tasks)) ≤ m .cpu) × (memOf (here m (w .herd .tasks)) ≤ m .mem)
+
+-- the same in whatever life the machine's agent is
+abbrev pub NeverTooMuchInAnyLife : Type 0
+NeverTooMuchInAnyLife =
+    (w : World) → Reach w → (i : ℕ) (m : Machine) → List·Memᴰ m (w .herd .machines) → m .num ≡ i →
     ((x : Seen) → List·Memᴰ x (ran w i) → T (some (λ (t : Task). eqb (t .id) (x .id)) (here m (w .herd .tasks)))) ×
     (cpuOf (here m (w .herd .tasks)) ≤ m .cpu) × (memOf (here m (w .herd .tasks)) ≤ m .mem)
 
@@ -94,6 +122,12 @@ NeverMore = (c : Call) (s : State) → Good s → T (allOk s (s .jobs)) → (isS
 abbrev pub LeastStay : Type 0
 LeastStay =
     (s : State) (j : Job) → Good s → List·Memᴰ j (s .jobs) → find (isJob (j .name)) (s .jobs) ≡ j ∷ [] →
+    (j .least ≤ length (readyOnes (mine j (settle s .tasks)))) ⊎ (length (readyOnes (mine j (s .tasks))) ≤ length (readyOnes (mine j (settle s .tasks))))
+
+-- the same without saying that the job is found by its name: in a good state it is
+abbrev pub LeastStays : Type 0
+LeastStays =
+    (s : State) (j : Job) → Good s → List·Memᴰ j (s .jobs) →
     (j .least ≤ length (readyOnes (mine j (settle s .tasks)))) ⊎ (length (readyOnes (mine j (s .tasks))) ≤ length (readyOnes (mine j (settle s .tasks))))
 
 -- e. After a pass no task waits that a machine would take.
