@@ -1,0 +1,4 @@
+pub mod Names
+pub mod Spans
+pub mod Words
+pub mod Frames
