@@ -2,3 +2,5 @@ pub mod Names
 pub mod Spans
 pub mod Words
 pub mod Frames
+pub mod TaskRows
+pub mod MoveLaws

@@ -3,14 +3,14 @@
 use mathlib.Core.Path.{_≡_, refl, sym, ap, _∙_}
 use mathlib.Core.List.{List, [], _∷_, _++_}
 use mathlib.Core.Logic.{_⊎_, inl, inr}
-use Prim.Native.Nat.{ℕ, suc, _+_, _-_, _*_, _<_, _≤_}
+use Prim.Native.Nat.{ℕ, zero, suc, _+_, _-_, _*_, _<_, _≤_}
 use native.Mathlib.Nat.{add-mul}
 use native.Mathlib.Omega.{arith}
 use borrow.Author.Needs.{needs}
 use borrow.Rule.Slice.PartMut.{putMid}
 use lib.ListN.{length, getD, set, take, drop}
 use Rattle.std.proofs.shelf.Bits.{mul-le}
-use Rattle.std.proofs.shelf.Lists.{ext-getD, length-take, length-drop, getD-take, getD-drop, length-set, getD-set-other, take-at, drop-at, length-take-le, places}
+use Rattle.std.proofs.shelf.Lists.{ext-getD, length-take, length-drop, getD-take, getD-drop, length-set, getD-set-other, take-at, drop-at, drop-set-add, length-take-le, places}
 use Rattle.jobs.specs.Rows.{at, rowAt, Only}
 
 -- a row that comes before another ends before it
@@ -46,3 +46,22 @@ set-only i v ws = record { long = length-set ws i v; below = λ k h. getD-set-ot
 
 pub only-then : (a e : ℕ) (us vs ws : List ℕ) → Only a e us vs → Only a e vs ws → Only a e us ws
 only-then a e us vs ws p q = record { long = p .long ∙ q .long; below = λ k h. p .below k h ∙ q .below k h; above = λ k h. p .above k h ∙ q .above k h }
+
+pub only-wide : (a e b g : ℕ) (us ws : List ℕ) → b ≤ a → e ≤ g → Only a e us ws → Only b g us ws
+only-wide a e b g us ws p q h = record { long = h .long; below = λ k l. h .below k (omega arith); above = λ k l. h .above k (omega arith) }
+
+pub only-none : (a e : ℕ) (ws : List ℕ) → Only a e ws ws
+only-none a e ws = record { long = refl; below = λ k h. refl; above = λ k h. refl }
+
+take-set : (w k v : ℕ) (l : List ℕ) → take w (set l k v) ≡ set (take w l) k v
+take-set zero k v l = refl
+take-set (suc w) k v [] = refl
+take-set (suc w) zero v (x ∷ xs) = refl
+take-set (suc w) (suc k) v (x ∷ xs) = ap (λ (ys : List ℕ). x ∷ ys) (take-set w k v xs)
+
+-- word k of a row is written
+pub set-row : (w o k v : ℕ) (ws : List ℕ) → take w (drop o (set ws (o + k) v)) ≡ set (take w (drop o ws)) k v
+set-row w o k v ws = ap (take w) (drop-set-add o ws k v) ∙ take-set w k v (drop o ws)
+
+pub row-length : (w o : ℕ) (ws : List ℕ) → o + w ≤ length ws → length (take w (drop o ws)) ≡ w
+row-length w o ws h = simp (length-take, length-drop) (omega arith)

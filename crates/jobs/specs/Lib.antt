@@ -2,3 +2,4 @@ pub mod Layout
 pub mod Rows
 pub mod Tables
 pub mod Values
+pub mod Changes

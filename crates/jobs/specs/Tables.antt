@@ -126,3 +126,16 @@ tasksBefore home live i = span (taskAt home live) 0 i
 
 abbrev pub tasksBehind : List ℕ → List ℕ → ℕ → List s.Task
 tasksBehind home live i = span (taskAt home live) (i + 1) (taskRows home - (i + 1))
+
+-- SOME CHANGES OF THE LIST OF TASKS
+
+-- the list is ts now; jobs and machines stay
+pub record TasksNow (ts : List s.Task) (home live home' live' : List ℕ) : Type 0 where
+  pub tasks : tasksOf home' live' ≡ ts
+  pub last : at home' 0 ≡ at home 0
+  pub frame : TasksOnly home live home' live'
+
+-- row i of the tasks has these words now, all else stays
+pub record RowPut (i : ℕ) (r home home' : List ℕ) : Type 0 where
+  pub here : taskRow home' i ≡ r
+  pub only : Only (taskBase + i * 27) (taskBase + i * 27 + 27) home' home

@@ -8,3 +8,5 @@ pub mod naming;
 pub mod phase;
 pub mod rows;
 pub mod spec;
+pub mod tasks;
+pub mod moves;
