@@ -1,0 +1,6 @@
+pub mod Names
+pub mod Spans
+pub mod Words
+pub mod Frames
+pub mod TaskRows
+pub mod MoveLaws

@@ -1,0 +1,5 @@
+pub mod Layout
+pub mod Rows
+pub mod Tables
+pub mod Values
+pub mod Changes
