@@ -11,8 +11,8 @@ use Rattle.std.specs.Iters.{counting}
 use Rattle.std.proofs.shelf.Counted.{length-map-counting, getD-map-counting}
 use Rattle.std.proofs.shelf.Lists.{ext-getD, getD-drop, length-drop, take-all}
 use Rattle.model.specs.Lists.{same}
-use Rattle.model.proofs.Lists.{bool, clash}
-use Rattle.model.proofs.Tasks.{same-eq, eq-same, same-sym}
+use Rattle.model.proofs.Lists.Tests.{bool, clash}
+use Rattle.model.proofs.Tasks.Names.{same-eq, eq-same, same-sym}
 use Rattle.jobs.specs.Rows.{at}
 use Rattle.jobs.specs.Tables.{byteAt, bytesOf}
 

@@ -1,0 +1,2 @@
+// Calls and answers, as values of the code: what is said to the herd, and what it says.
+pub mod call;
