@@ -6,3 +6,4 @@ pub mod Text
 pub mod Resume
 pub mod Digits
 pub mod Ends
+pub mod Reads
