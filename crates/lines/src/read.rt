@@ -1,8 +1,10 @@
 // Calls from bytes.
 ghost use mathlib.Core.Path.{_≡_};
-ghost use Prim.Native.Nat.{_/_};
+ghost use Prim.Native.Nat.{_+_, _*_, _/_, _≤_};
 ghost use lib.ListN.{length};
-ghost use Rattle.model.specs.Wire.{flagsIn, readAdd, readCall, readReport, readSet, readTick};
+ghost use Rattle.model.specs.Wire.{flagsIn, readAdd, readCall, readKind, readMachine, readName, readReport, readSet, readTick, specIn};
+ghost use Rattle.model.specs.Calls.{Close, EndJob, Forget, Reopen, Show};
+ghost use Rattle.calls.specs.Meaning.{likeOf};
 ghost use Rattle.lines.specs.Reads.{Named, Numbered, ReadAs};
 use crate::field::u16_at;
 use crate::field::u32_at;
@@ -33,6 +35,51 @@ fn numbered(rest: &[u8]) -> Option<MachineId>
         return None;
     }
     Some(MachineId(u16_at(rest, 0)))
+}
+
+fn read_end(rest: &[u8]) -> Option<Call<'_>>
+    ensures { λ r. ⌜ ReadAs (readName EndJob (now (rest .entry))) r ⌝ }
+{
+    let Some(name) = named(rest) else {
+        return None;
+    };
+    Some(Call::End(name))
+}
+
+fn read_show(rest: &[u8]) -> Option<Call<'_>>
+    ensures { λ r. ⌜ ReadAs (readName Show (now (rest .entry))) r ⌝ }
+{
+    let Some(name) = named(rest) else {
+        return None;
+    };
+    Some(Call::Show(name))
+}
+
+fn read_close(rest: &[u8]) -> Option<Call<'_>>
+    ensures { λ r. ⌜ ReadAs (readMachine Close (now (rest .entry))) r ⌝ }
+{
+    let Some(machine) = numbered(rest) else {
+        return None;
+    };
+    Some(Call::Close(machine))
+}
+
+fn read_reopen(rest: &[u8]) -> Option<Call<'_>>
+    ensures { λ r. ⌜ ReadAs (readMachine Reopen (now (rest .entry))) r ⌝ }
+{
+    let Some(machine) = numbered(rest) else {
+        return None;
+    };
+    Some(Call::Reopen(machine))
+}
+
+fn read_forget(rest: &[u8]) -> Option<Call<'_>>
+    ensures { λ r. ⌜ ReadAs (readMachine Forget (now (rest .entry))) r ⌝ }
+{
+    let Some(machine) = numbered(rest) else {
+        return None;
+    };
+    Some(Call::Forget(machine))
 }
 
 fn read_time(rest: &[u8]) -> Option<Call<'_>>
@@ -86,4 +133,70 @@ fn read_report(rest: &[u8]) -> Option<Call<'_>>
         number: ReportNumber(u64_at(rest, 10)),
         tasks,
     }))
+}
+
+// A likeness with so many tags.
+fn likeness(bytes: &[u8], tags: usize) -> Likeness<'_>
+    requires { ⌜ 14 + 4 * tags ≤ length (now bytes) ⌝ }
+    ensures { λ r. ⌜ likeOf r ≡ specIn tags (now (bytes .entry)) ⌝ }
+{
+    let end = 13 + 4 * tags;
+    Likeness {
+        image: u32_at(bytes, 0),
+        cpu: u32_at(bytes, 4),
+        mem: u32_at(bytes, 8),
+        tags: &bytes[13..end],
+        apart: bytes[end] == 1,
+    }
+}
+
+fn read_set(rest: &[u8]) -> Option<Call<'_>>
+    ensures { λ r. ⌜ ReadAs (readSet (now (rest .entry))) r ⌝ }
+{
+    if rest.len() < 1 {
+        return None;
+    }
+    let name = rest[0] as usize;
+    if rest.len() < name + 14 {
+        return None;
+    }
+    let tags = rest[name + 13] as usize;
+    if rest.len() != name + 4 * tags + 21 || rest[name + 4 * tags + 14] > 1 {
+        return None;
+    }
+    Some(Call::Set(Wanted {
+        name: &rest[1..1 + name],
+        like: likeness(&rest[1 + name..], tags),
+        count: u16_at(rest, name + 4 * tags + 15),
+        least: u16_at(rest, name + 4 * tags + 17),
+        most: u16_at(rest, name + 4 * tags + 19),
+    }))
+}
+
+// By the first byte, the kind of the call.
+fn read_kind(kind: u8, rest: &[u8]) -> Option<Call<'_>>
+    ensures { λ r. ⌜ ReadAs (readKind kind (now (rest .entry))) r ⌝ }
+{
+    match kind {
+        1 => read_set(rest),
+        2 => read_end(rest),
+        3 => read_add(rest),
+        4 => read_close(rest),
+        5 => read_reopen(rest),
+        6 => read_forget(rest),
+        7 => read_report(rest),
+        8 => read_time(rest),
+        9 => read_show(rest),
+        _ => None,
+    }
+}
+
+// The call that these bytes are; none where they are no call.
+pub fn read(bytes: &[u8]) -> Option<Call<'_>>
+    ensures { λ r. ⌜ ReadAs (readCall (now (bytes .entry))) r ⌝ }
+{
+    if bytes.len() == 0 {
+        return None;
+    }
+    read_kind(bytes[0], &bytes[1..])
 }
