@@ -10,9 +10,10 @@ use lib.ListN.{length}
 use Rattle.model.specs.Lists.{some, keep, find, change, none}
 use Rattle.model.specs.State.{Name, Machine, Spec, Job, Ending, Task, State, isWaiting, isReady, isJob, isMachine, ofJob, phased, withJobs, withMachines, cpuOf, memOf}
 use Rattle.model.specs.Settle.{mine, readyOnes, here, takes, settle}
-use Rattle.model.specs.Calls.{Seen, Call, SetJob, EndJob, AddMachine, Close, Reopen, Forget, Report, Tick, Show, Order, No, Yes, newJob, resetJob, newMachine, opened, heard, forgotten, later, timed, does}
+use Rattle.model.specs.Calls.{Seen, Call, SetJob, EndJob, AddMachine, Close, Reopen, Forget, Report, Tick, Show, Order, Reply, No, Yes, newJob, resetJob, newMachine, opened, heard, forgotten, later, timed, does}
 use Rattle.model.specs.World.{World, Agent, isOrder, Step, Reach}
-use Rattle.model.specs.Promise.{Good, ran}
+use Rattle.model.specs.Memory.{Happens, MayHappen}
+use Rattle.model.specs.Promise.{herd, Good, ran}
 
 -- WHAT RUNS FITS
 
@@ -130,6 +131,10 @@ NoneWaits s = (t : Task) (m : Machine) → List·Memᴰ t (s .tasks) → T (isWa
 
 abbrev pub NeverWaits : Type 0
 NeverWaits = (w : World) → Reach w → NoneWaits (w .herd)
+
+-- and so of the herd alone, whichever calls are built: whatever may have happened, its state is good, and no task waits that a machine would take
+abbrev pub WhateverHappens : Type 0
+WhateverHappens = (can : Call → Bool) (es : List (Happens Call Reply)) (s : State) → MayHappen (herd can) es s → Good s × NoneWaits s
 
 -- REFUSALS
 
