@@ -82,9 +82,9 @@ abbrev pub isOf : Name → List Task → Seen → Bool
 isOf n ts x = some (λ (t : Task). eqb (t .id) (x .id) && ofJob n t) ts
 
 -- all that runs of a job on these machines
-unfoldable pub running : Name → World → List ℕ → List Seen
-running n w [] = []
-running n w (i ∷ is) = keep (isOf n (w .herd .tasks)) (ran w i) ++ running n w is
+unfoldable pub runningOf : Name → World → List ℕ → List Seen
+runningOf n w [] = []
+runningOf n w (i ∷ is) = keep (isOf n (w .herd .tasks)) (ran w i) ++ runningOf n w is
 
 -- numbers that are all different
 unfoldable pub differ : List ℕ → Bool
@@ -95,7 +95,7 @@ differ (i ∷ is) = not (some (eqb i) is) && differ is
 abbrev pub NeverOver : Type 0
 NeverOver =
     (w : World) (r : Reach w) (j : Job) → List·Memᴰ j (w .herd .jobs) → Unlowered (j .name) r →
-    (length (mine j (w .herd .tasks)) ≤ j .most) × ((is : List ℕ) → T (differ is) → length (running (j .name) w is) ≤ j .most)
+    (length (mine j (w .herd .tasks)) ≤ j .most) × ((is : List ℕ) → T (differ is) → length (runningOf (j .name) w is) ≤ j .most)
 
 -- WHAT A PASS TAKES
 
