@@ -8,9 +8,9 @@ use Prim.Native.Nat.{ℕ, _+_, _≤_}
 use lib.Dec.{eqb, T}
 use lib.ListN.{length}
 use Rattle.model.specs.Lists.{some, keep, find, change, none}
-use Rattle.model.specs.State.{Name, Machine, Spec, Job, Ending, Task, State, isWaiting, isReady, isJob, isMachine, ofJob, phased, withJobs, withMachines, cpuOf, memOf}
+use Rattle.model.specs.State.{Name, Machine, Spec, Job, Ending, Task, State, isWaiting, isReady, isEnding, isJob, isMachine, ofJob, onMachine, phased, withJobs, withMachines, cpuOf, memOf}
 use Rattle.model.specs.Settle.{mine, readyOnes, here, takes, settle}
-use Rattle.model.specs.Calls.{Seen, Call, SetJob, EndJob, AddMachine, Close, Reopen, Forget, Report, Tick, Show, Order, Reply, No, Yes, newJob, resetJob, newMachine, opened, heard, forgotten, later, timed, does}
+use Rattle.model.specs.Calls.{Seen, Call, SetJob, EndJob, AddMachine, Close, Reopen, Forget, Report, Tick, Show, Order, Reply, No, Yes, Run, newJob, resetJob, newMachine, opened, heard, forgotten, later, timed, does}
 use Rattle.model.specs.World.{World, Agent, isOrder, Step, Reach}
 use Rattle.model.specs.Memory.{Happens, MayHappen}
 use Rattle.model.specs.Promise.{herd, Good, ran}
@@ -39,6 +39,10 @@ pub record Within (s : State) (m : Machine) (a : Agent) : Type 0 where
 -- what runs on a machine, each at the spec that was ordered, adds up to no more than the machine has. (Where anything runs, the herd has the machine: Anchored.)
 abbrev pub RunsWithin : Type 0
 RunsWithin = (w : World) → Reach w → (m : Machine) → List·Memᴰ m (w .herd .machines) → Within (w .herd) m (w .agent (m .num))
+
+-- and on whatever machine: nothing runs there, or the herd has it, in this life of its agent, and what runs fits
+abbrev pub FitsEverywhere : Type 0
+FitsEverywhere = (w : World) → Reach w → (i : ℕ) → (ran w i ≡ []) ⊎ ((m : Machine) × List·Memᴰ m (w .herd .machines) × (m .num ≡ i) × (m .life ≡ w .agent i .life) × Within (w .herd) m (w .agent i))
 
 -- NO MORE THAN THE MOST
 
@@ -141,6 +145,16 @@ WhateverHappens = (can : Call → Bool) (es : List (Happens Call Reply)) (s : St
 -- a call that is answered by a number leaves the state as it was
 abbrev pub RefusalKeeps : Type 0
 RefusalKeeps = (c : Call) (s : State) (k : ℕ) → does c s .reply ≡ No k → does c s .state ≡ s
+
+-- WHAT A REPORT IS ANSWERED
+
+-- the answer bears the report's number, and orders exactly what is on the machine afterwards and isn't ending, each at its spec
+abbrev pub OrdersAll : Type 0
+OrdersAll =
+    (k l n : ℕ) (xs : List Seen) (s : State) (i : ℕ) (os : List Order) → does (Report k l n xs) s .reply ≡ Run i os →
+    (i ≡ n) ×
+    ((t : Task) → List·Memᴰ t (does (Report k l n xs) s .state .tasks) → T (onMachine k t) → T (not (isEnding (t .phase))) → List·Memᴰ (record { id = t .id; spec = t .spec }) os) ×
+    ((o : Order) → List·Memᴰ o os → (t : Task) × List·Memᴰ t (does (Report k l n xs) s .state .tasks) × T (onMachine k t) × T (not (isEnding (t .phase))) × (t .id ≡ o .id) × (t .spec ≡ o .spec))
 
 -- TASK NUMBERS ARE GIVEN ONCE
 
