@@ -8,10 +8,10 @@ pub mod Kept
 pub mod Counts
 pub mod Passes
 pub mod Apart
-pub use Tests.*
-pub use Members.*
-pub use Chosen.*
-pub use Kept.*
-pub use Counts.*
-pub use Passes.*
-pub use Apart.*
+pub use Tests.{to-true, from-true, not-to-false, clash, bool, never}
+pub use Members.{In, in-from, in-to, in-end, in-left, in-append}
+pub use Chosen.{every-at, every-from, some-from, some-at, some-not, not-some, find-none, find-in, none-true}
+pub use Kept.{keep-yes, keep-no, in-keep, keep-in, keep-keep, change-hit, change-miss, last-in, head-in}
+pub use Counts.{bump, count-cons, bump-mono, keep-end, count-same, change-down, keep-nothing}
+pub use Passes.{Pass, done, gone, goes, pass-same, pass-keep, pass-change, pass-map, pass-then, pass-from, pass-to, pass-down, pass-up, pass-weaken}
+pub use Apart.{Once, once-pass, once-end, once-append}

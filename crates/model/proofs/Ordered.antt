@@ -1,27 +1,29 @@
 -- What runs on a machine asks for no more than the machine has, each at the spec that was ordered.
 -- Assumes nothing.
 use mathlib.Core.Path.{_≡_, refl, sym, _∙_, ap, subst}
-use mathlib.Core.Logic.{inl, inr}
-use mathlib.Core.Bool.{Bool, true, false, cond}
+use mathlib.Core.Logic.{_⊎_, inl, inr}
+use lib.Dec.{T}
+use mathlib.Core.Bool.{not, Bool, true, false, cond}
 use mathlib.Core.List.{List, [], _∷_, List·Memᴰ}
 use Prim.Native.Nat.{ℕ, _+_, _<_, _≤_}
 use native.Mathlib.Omega.{arith}
 use native.Mathlib.Nat.{le-trans}
 use Rattle.std.proofs.shelf.Tests.{eqb-true}
 use Rattle.model.specs.Lists.{keep, find}
-use Rattle.model.specs.State.{Spec, Task, State, isEnding, onMachine}
+use Rattle.model.specs.State.{Machine, Spec, Task, State, isEnding, onMachine}
 use Rattle.model.specs.Settle.{here, settle}
 use Rattle.model.specs.Calls.{Seen, Call, Forget, Report, Order, Run, Out, orders, heard, does}
 use Rattle.model.specs.World.{Agent, Back, World, put, isOrder, Step, Reach}
-use Rattle.model.specs.Always.{asked, askedBy, RunsWithin}
-use Rattle.model.proofs.Lists.{never, In, in-from, in-to, find-in, in-keep, keep-in}
+use Rattle.model.specs.Promise.{ran}
+use Rattle.model.specs.Always.{Within, FitsEverywhere, OrdersAll, asked, askedBy, RunsWithin}
+use Rattle.model.proofs.Lists.{to-true, from-true, not-to-false, clash, never, In, in-from, in-to, find-in, in-keep, keep-in}
 use Rattle.model.proofs.Tasks.{rising-one}
 use Rattle.model.proofs.Settles.{Fine}
 use Rattle.model.proofs.Room.{weigh, weighSeen, seen-within}
 use Rattle.model.proofs.Acts.{does-is, fine-settle, fine-heard}
 use Rattle.model.proofs.Hold.{cpuNeed, memNeed}
 use Rattle.model.proofs.Keeps.{Sound}
-use Rattle.model.proofs.Worlds.{Agrees, inv-reach, put-is}
+use Rattle.model.proofs.Worlds.{anchored, Agrees, inv-reach, put-is}
 use Rattle.model.proofs.Numbers.{Given, given-does, given-down}
 
 -- AN ORDER IS OF A TASK BY THAT NUMBER, AT ITS SPEC, OR OF ONE THAT IS GONE
@@ -35,15 +37,56 @@ Known o s = Given (o .id) (HasSpec o) s
 known-does : (o : Order) (c : Call) (s : State) → Fine s → Known o s → Known o (does c s .state)
 known-does o c s f h = given-does (o .id) (HasSpec o) (λ x y p q. p .1 ∙ q) c s f h
 
-orders-from : (ts : List Task) (o : Order) → In o (orders ts) → (t : Task) × In t ts × (t .id ≡ o .id) × (t .spec ≡ o .spec)
+orders-from : (ts : List Task) (o : Order) → In o (orders ts) → (t : Task) × In t ts × (t .id ≡ o .id) × (t .spec ≡ o .spec) × (isEnding (t .phase) ≡ false)
 unfolding orders
 orders-from [] o i = absurd i
-orders-from (t ∷ ts) o i = pick (isEnding (t .phase)) i (λ j. orders-from ts o j)
+orders-from (t ∷ ts) o i = pick (isEnding (t .phase)) refl i (λ j. orders-from ts o j)
   where
-    pick : (b : Bool) → In o (cond b (orders ts) (record { id = t .id; spec = t .spec } ∷ orders ts)) → (In o (orders ts) → (u : Task) × In u ts × (u .id ≡ o .id) × (u .spec ≡ o .spec)) → (u : Task) × In u (t ∷ ts) × (u .id ≡ o .id) × (u .spec ≡ o .spec)
-    pick true j r = let w = r j in (w .0, inr (w .1), w .2, w .3)
-    pick false (inl e) r = (t, inl refl, sym (ap (λ (z : Order). z .id) e), sym (ap (λ (z : Order). z .spec) e))
-    pick false (inr j) r = let w = r j in (w .0, inr (w .1), w .2, w .3)
+    Of : List Task → Type 0
+    Of us = (u : Task) × In u us × (u .id ≡ o .id) × (u .spec ≡ o .spec) × (isEnding (u .phase) ≡ false)
+
+    pick : (b : Bool) → isEnding (t .phase) ≡ b → In o (cond b (orders ts) (record { id = t .id; spec = t .spec } ∷ orders ts)) → (In o (orders ts) → Of ts) → Of (t ∷ ts)
+    pick true p j r = let w = r j in (w .0, inr (w .1), w .2, w .3, w .4)
+    pick false p (inl e) r = (t, inl refl, sym (ap (λ (z : Order). z .id) e), sym (ap (λ (z : Order). z .spec) e), p)
+    pick false p (inr j) r = let w = r j in (w .0, inr (w .1), w .2, w .3, w .4)
+
+orders-to : (ts : List Task) (t : Task) → In t ts → isEnding (t .phase) ≡ false → In (record { id = t .id; spec = t .spec }) (orders ts)
+unfolding orders
+orders-to [] t i e = absurd i
+orders-to (u ∷ us) t i e = pick (isEnding (u .phase)) refl i (λ j. orders-to us t j e)
+  where
+    o : Task → Order
+    o x = record { id = x .id; spec = x .spec }
+
+    pick : (b : Bool) → isEnding (u .phase) ≡ b → In t (u ∷ us) → (In t us → In (o t) (orders us)) → In (o t) (cond b (orders us) (o u ∷ orders us))
+    pick true p (inl q) r = clash (isEnding (t .phase)) (ap (λ (x : Task). isEnding (x .phase)) q ∙ p) e
+    pick true p (inr j) r = r j
+    pick false p (inl q) r = inl (ap o q)
+    pick false p (inr j) r = inr (r j)
+
+pub orders-all : OrdersAll
+orders-all k l n xs s = does-is P (Report k l n xs) s (λ c i os e. never (cc)) (λ m ms e q i os r. let a : n ≡ i = cc in let b : orders (keep (onMachine k) (u .tasks)) ≡ os = cc in subst (λ (z : ℕ). Q u z os) a (subst (λ (zs : List Order). Q u n zs) b answered))
+  where
+    u : State
+    u = settle (heard k l n xs s)
+
+    Q : State → ℕ → List Order → Type 0
+    Q v i os =
+        (i ≡ n) × ((t : Task) → List·Memᴰ t (v .tasks) → T (onMachine k t) → T (not (isEnding (t .phase))) → List·Memᴰ (record { id = t .id; spec = t .spec }) os) ×
+        ((o : Order) → List·Memᴰ o os → (t : Task) × List·Memᴰ t (v .tasks) × T (onMachine k t) × T (not (isEnding (t .phase))) × (t .id ≡ o .id) × (t .spec ≡ o .spec))
+
+    P : Out → Type 0
+    P z = (i : ℕ) (os : List Order) → z .reply ≡ Run i os → Q (z .state) i os
+
+    on : List Task
+    on = keep (onMachine k) (u .tasks)
+
+    answered : Q u n (orders on)
+    answered = (
+      refl,
+      λ t ti h e. in-to (record { id = t .id; spec = t .spec }) (orders on) (orders-to on t (keep-in (onMachine k) (u .tasks) t (in-from ti) (to-true _ h)) (not-to-false _ e)),
+      λ o oi. let w = orders-from on o (in-from oi) in let p = in-keep (onMachine k) (u .tasks) (w .0) (w .1) in (w .0, in-to (w .0) (u .tasks) (p .0), from-true _ (p .1), from-true _ (ap not (w .4)), w .2, w .3),
+    )
 
 -- what is ordered of what is on a machine is known as it is
 known-here : (s : State) → Fine s → (i : ℕ) (o : Order) → In o (orders (keep (onMachine i) (s .tasks))) → Known o s
@@ -133,3 +176,12 @@ runs-within w r m mi = record { ordered = λ x xi. let o = g .runs x (in-from xi
 
     fits : (need : Spec → ℕ) (has : ℕ) → weigh (λ (t : Task). need (t .spec)) ts ≤ has → askedBy need (a .ordered) (a .runs) ≤ has
     fits need has h = subst (λ (n : ℕ). n ≤ has) (sym (asked-is need (a .ordered) (a .runs))) (le-trans (seen-within _ (λ (t : Task). need (t .spec)) (a .runs) ts (g .once) (on need)) h)
+
+pub fits-everywhere : FitsEverywhere
+fits-everywhere w r i = pick (ran w i) refl
+  where
+    pick : (xs : List Seen) → ran w i ≡ xs → (ran w i ≡ []) ⊎ ((m : Machine) × List·Memᴰ m (w .herd .machines) × (m .num ≡ i) × (m .life ≡ w .agent i .life) × Within (w .herd) m (w .agent i))
+    pick [] e = inl e
+    pick (x ∷ xs) e =
+        let a = anchored w r i x (subst (λ (ys : List Seen). List·Memᴰ x ys) (sym e) (in-to x (x ∷ xs) (inl refl))) in
+        inr (a .0, a .1, a .2, a .3, subst (λ (j : ℕ). Within (w .herd) (a .0) (w .agent j)) (a .2) (runs-within w r (a .0) (a .1)))

@@ -5,7 +5,7 @@ pub mod Names
 pub mod ByNumber
 pub mod Steps
 pub mod Placing
-pub use Names.*
-pub use ByNumber.*
-pub use Steps.*
-pub use Placing.*
+pub use Names.{same-refl, same-eq, eq-same, same-sym, unsame-sym}
+pub use ByNumber.{Rising, rising-from, rising-to, rising-low, rising-over, rising-one, rising-pass, rising-end}
+pub use Steps.{waiting-not-ready, jobless, Ends, orphans-pass, ended-pass, MayEnd, may-end, step-is, steps-are}
+pub use Placing.{Places, Put, Never, told-not-waiting, put-put, put-id, place-pass, stays-in, Queue, queue-next, places-pass, queue-of}

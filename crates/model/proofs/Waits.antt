@@ -1,7 +1,7 @@
 -- At every moment of every run no task waits that a machine would take, also after the herd went dark.
 -- Assumes nothing.
 use mathlib.Core.Path.{_≡_, refl, _∙_, ap, subst}
-use mathlib.Core.Bool.{true, _&&_, not}
+use mathlib.Core.Bool.{Bool, true, _&&_, not}
 use mathlib.Core.List.{List, List·Memᴰ}
 use Prim.Native.Nat.{ℕ, _+_}
 use lib.Dec.{eqb, leb}
@@ -9,11 +9,13 @@ use Rattle.std.proofs.shelf.Tests.{and-parts, not-true, eqb-false}
 use Rattle.model.specs.Lists.{some, every}
 use Rattle.model.specs.State.{Machine, Task, State, ofJob, cpuOf, memOf}
 use Rattle.model.specs.Settle.{settle, here, present}
-use Rattle.model.specs.Calls.{Call, Out, does, down, heard}
-use Rattle.model.specs.Always.{NoneWaits, NeverWaits}
+use Rattle.model.specs.Calls.{Call, Reply, Out, does, down, heard}
+use Rattle.model.specs.Memory.{Happens, MayHappen}
+use Rattle.model.specs.Promise.{Answers, says-so, not-yet, herd}
+use Rattle.model.specs.Always.{NoneWaits, NeverWaits, WhateverHappens}
 use Rattle.model.proofs.Lists.{to-true, in-from, pass-map, pass-from}
 use Rattle.model.proofs.Settles.{unplaced-alike, Fine, fine-to}
-use Rattle.model.proofs.Acts.{must-from, does-is, fine-pre}
+use Rattle.model.proofs.Acts.{fine-does, fine-down, must-from, does-is, fine-pre}
 use Rattle.model.proofs.Room.{waits-for-room}
 use Rattle.model.proofs.Kin.{reach-herd}
 
@@ -44,3 +46,29 @@ waits-down s t m i w mi h = eqb-false (m .heard) 0 (not-true _ heard) silent
 
 pub never-waits : NeverWaits
 never-waits w r = reach-herd NoneWaits (λ t m i. absurd (in-from i)) (λ c s h q. waits-does c s (h .fine) q) (λ s h q. waits-down s) r
+
+-- WHATEVER HAPPENS TO THE HERD ALONE
+
+Keeping : State → Type 0
+Keeping s = Fine s × NoneWaits s
+
+answers-keep : (can : Call → Bool) {c : Call} {s t : State} {r : Reply} → Answers can c s r t → Keeping s → Keeping t
+unfolding Keeping
+answers-keep can (says-so c s k) h = (fine-does c s (h .0), waits-does c s (h .0) (h .1))
+answers-keep can (not-yet c s k) h = h
+
+down-keeps : (s : State) → Keeping s → Keeping (down s)
+unfolding Keeping
+down-keeps s h = (fine-down s (h .0), waits-down s)
+
+happens-keep : (can : Call → Bool) {es : List (Happens Call Reply)} {s : State} → MayHappen (herd can) es s → Keeping s
+unfolding Keeping
+happens-keep can MayHappen.nothing = (record { jobs = tt; machines = tt; tidy = (tt, λ t i. absurd i) }, λ t m i. absurd (in-from i))
+happens-keep can (MayHappen.isAnswered p a) = answers-keep can a (happens-keep can p)
+happens-keep can (MayHappen.wasnt {s = s} p) = down-keeps s (happens-keep can p)
+happens-keep can (MayHappen.was {t = t} p a) = down-keeps t (answers-keep can a (happens-keep can p))
+happens-keep can (MayHappen.gotDark {s = s} p) = down-keeps s (happens-keep can p)
+
+pub whatever-happens : WhateverHappens
+unfolding Keeping
+whatever-happens can es s p = let h = happens-keep can p in (fine-to s (h .0), h .1)

@@ -6,8 +6,8 @@ pub mod Agents
 pub mod Hearing
 pub mod Moves
 pub mod Promises
-pub use Agreement.*
-pub use Agents.*
-pub use Hearing.*
-pub use Moves.*
-pub use Promises.*
+pub use Agreement.{News, At, Agrees, Numbered, Inv, agrees-keeps, agrees-anew, agrees-off, put-is, agrees-up, agrees-back, numbered-up, numbered-back}
+pub use Agents.{agrees-reports, agrees-obeys, SameId, AnySeen, agrees-runs, pass-behind, pass-all, agrees-starts}
+pub use Hearing.{hears-is, hears-not, is-news, agrees-hears}
+pub use Moves.{inv-step, inv-reach}
+pub use Promises.{runs-on, never-too-much-in-any-life, never-too-much, anchored, one-place, never-twice}

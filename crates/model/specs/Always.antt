@@ -8,11 +8,12 @@ use Prim.Native.Nat.{ℕ, _+_, _≤_}
 use lib.Dec.{eqb, T}
 use lib.ListN.{length}
 use Rattle.model.specs.Lists.{some, keep, find, change, none}
-use Rattle.model.specs.State.{Name, Machine, Spec, Job, Ending, Task, State, isWaiting, isReady, isJob, isMachine, ofJob, phased, withJobs, withMachines, cpuOf, memOf}
+use Rattle.model.specs.State.{Name, Machine, Spec, Job, Ending, Task, State, isWaiting, isReady, isEnding, isJob, isMachine, ofJob, onMachine, phased, withJobs, withMachines, cpuOf, memOf}
 use Rattle.model.specs.Settle.{mine, readyOnes, here, takes, settle}
-use Rattle.model.specs.Calls.{Seen, Call, SetJob, EndJob, AddMachine, Close, Reopen, Forget, Report, Tick, Show, Order, No, Yes, newJob, resetJob, newMachine, opened, heard, forgotten, later, timed, does}
+use Rattle.model.specs.Calls.{Seen, Call, SetJob, EndJob, AddMachine, Close, Reopen, Forget, Report, Tick, Show, Order, Reply, No, Yes, Run, newJob, resetJob, newMachine, opened, heard, forgotten, later, timed, does}
 use Rattle.model.specs.World.{World, Agent, isOrder, Step, Reach}
-use Rattle.model.specs.Promise.{Good, ran}
+use Rattle.model.specs.Memory.{Happens, MayHappen}
+use Rattle.model.specs.Promise.{herd, Good, ran}
 
 -- WHAT RUNS FITS
 
@@ -38,6 +39,10 @@ pub record Within (s : State) (m : Machine) (a : Agent) : Type 0 where
 -- what runs on a machine, each at the spec that was ordered, adds up to no more than the machine has. (Where anything runs, the herd has the machine: Anchored.)
 abbrev pub RunsWithin : Type 0
 RunsWithin = (w : World) → Reach w → (m : Machine) → List·Memᴰ m (w .herd .machines) → Within (w .herd) m (w .agent (m .num))
+
+-- and on whatever machine: nothing runs there, or the herd has it, in this life of its agent, and what runs fits
+abbrev pub FitsEverywhere : Type 0
+FitsEverywhere = (w : World) → Reach w → (i : ℕ) → (ran w i ≡ []) ⊎ ((m : Machine) × List·Memᴰ m (w .herd .machines) × (m .num ≡ i) × (m .life ≡ w .agent i .life) × Within (w .herd) m (w .agent i))
 
 -- NO MORE THAN THE MOST
 
@@ -81,9 +86,9 @@ abbrev pub isOf : Name → List Task → Seen → Bool
 isOf n ts x = some (λ (t : Task). eqb (t .id) (x .id) && ofJob n t) ts
 
 -- all that runs of a job on these machines
-unfoldable pub running : Name → World → List ℕ → List Seen
-running n w [] = []
-running n w (i ∷ is) = keep (isOf n (w .herd .tasks)) (ran w i) ++ running n w is
+unfoldable pub runningOf : Name → World → List ℕ → List Seen
+runningOf n w [] = []
+runningOf n w (i ∷ is) = keep (isOf n (w .herd .tasks)) (ran w i) ++ runningOf n w is
 
 -- numbers that are all different
 unfoldable pub differ : List ℕ → Bool
@@ -94,7 +99,7 @@ differ (i ∷ is) = not (some (eqb i) is) && differ is
 abbrev pub NeverOver : Type 0
 NeverOver =
     (w : World) (r : Reach w) (j : Job) → List·Memᴰ j (w .herd .jobs) → Unlowered (j .name) r →
-    (length (mine j (w .herd .tasks)) ≤ j .most) × ((is : List ℕ) → T (differ is) → length (running (j .name) w is) ≤ j .most)
+    (length (mine j (w .herd .tasks)) ≤ j .most) × ((is : List ℕ) → T (differ is) → length (runningOf (j .name) w is) ≤ j .most)
 
 -- WHAT A PASS TAKES
 
@@ -131,11 +136,25 @@ NoneWaits s = (t : Task) (m : Machine) → List·Memᴰ t (s .tasks) → T (isWa
 abbrev pub NeverWaits : Type 0
 NeverWaits = (w : World) → Reach w → NoneWaits (w .herd)
 
+-- and so of the herd alone, whichever calls are built: whatever may have happened, its state is good, and no task waits that a machine would take
+abbrev pub WhateverHappens : Type 0
+WhateverHappens = (can : Call → Bool) (es : List (Happens Call Reply)) (s : State) → MayHappen (herd can) es s → Good s × NoneWaits s
+
 -- REFUSALS
 
 -- a call that is answered by a number leaves the state as it was
 abbrev pub RefusalKeeps : Type 0
 RefusalKeeps = (c : Call) (s : State) (k : ℕ) → does c s .reply ≡ No k → does c s .state ≡ s
+
+-- WHAT A REPORT IS ANSWERED
+
+-- the answer bears the report's number, and orders exactly what is on the machine afterwards and isn't ending, each at its spec
+abbrev pub OrdersAll : Type 0
+OrdersAll =
+    (k l n : ℕ) (xs : List Seen) (s : State) (i : ℕ) (os : List Order) → does (Report k l n xs) s .reply ≡ Run i os →
+    (i ≡ n) ×
+    ((t : Task) → List·Memᴰ t (does (Report k l n xs) s .state .tasks) → T (onMachine k t) → T (not (isEnding (t .phase))) → List·Memᴰ (record { id = t .id; spec = t .spec }) os) ×
+    ((o : Order) → List·Memᴰ o os → (t : Task) × List·Memᴰ t (does (Report k l n xs) s .state .tasks) × T (onMachine k t) × T (not (isEnding (t .phase))) × (t .id ≡ o .id) × (t .spec ≡ o .spec))
 
 -- TASK NUMBERS ARE GIVEN ONCE
 

@@ -1,6 +1,6 @@
 // Of one call, one pass, one state.
 ghost use Rattle.model.specs.Promise.{LeastStay, LeastStays, NeverMore, StaysGood, WaitsForRoom};
-ghost use Rattle.model.specs.Always.{PassTakesFew, RefusalKeeps};
+ghost use Rattle.model.specs.Always.{OrdersAll, PassTakesFew, RefusalKeeps};
 
 // Jobs keep different names, machines different numbers, and tasks rising numbers below the next one:
 // through every call, every pass and the dark.
@@ -13,6 +13,14 @@ pub fn stays_good() -> u8
 // A call that is answered by a number leaves the state as it was: every call, in every state.
 pub fn refusal_keeps() -> u8
     ensures { λ _. ⌜ RefusalKeeps ⌝ }
+{
+    0
+}
+
+// A report that is taken is answered with its number and with exactly the tasks
+// that are on the machine afterwards and aren't ending, each at its spec.
+pub fn orders_all() -> u8
+    ensures { λ _. ⌜ OrdersAll ⌝ }
 {
     0
 }

@@ -1,7 +1,7 @@
 // Of all together, at every moment of every run: one herd, any number of agents,
 // and lines that lose, double, delay and reorder, with machines and the herd falling at any time.
 ghost use Rattle.model.specs.Promise.{Anchored, NeverTooMuch, NeverTooMuchInAnyLife, NeverTwice};
-ghost use Rattle.model.specs.Always.{AlwaysTakesFew, NeverBack, NeverOver, NeverWaits, RunsWithin, SameNumber};
+ghost use Rattle.model.specs.Always.{AlwaysTakesFew, FitsEverywhere, NeverBack, NeverOver, NeverWaits, RunsWithin, SameNumber};
 
 // What runs on a machine is among the tasks that the herd counts there, and these fit.
 pub fn never_too_much() -> u8
@@ -21,6 +21,13 @@ pub fn never_too_much_in_any_life() -> u8
 // and all that runs, each at the spec that was ordered, adds up to no more cpu and memory than the machine has.
 pub fn runs_within() -> u8
     ensures { λ _. ⌜ RunsWithin ⌝ }
+{
+    0
+}
+
+// On whatever machine: nothing runs there, or the herd has it, in this life of its agent, and what runs fits as above.
+pub fn fits_everywhere() -> u8
+    ensures { λ _. ⌜ FitsEverywhere ⌝ }
 {
     0
 }

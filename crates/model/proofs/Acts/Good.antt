@@ -16,7 +16,7 @@ use Rattle.model.proofs.Lists.{clash, bool, find-none, Pass, pass-keep, pass-c
 use Rattle.model.proofs.Tasks.{same-eq, unsame-sym, Never}
 use Rattle.model.proofs.Settles.{tidy-pass, tidy-settle, unplaced-alike, Fine, fine-from, fine-to}
 use Rattle.model.proofs.Acts.Outcomes.{Pre, does-keeps}
-use Rattle.model.proofs.Acts.Heard.{told, heard-pass, heard-id}
+use Rattle.model.proofs.Acts.Heard.{heard-pass, heard-id}
 
 -- a pass keeps a state good
 pub fine-settle : (s : State) → Fine s → Fine (settle s)

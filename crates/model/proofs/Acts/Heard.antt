@@ -18,7 +18,7 @@ HeardGone k l xs x = (onMachine k x ≡ true) × ((eqb l (x .life) ≡ false) �
 abbrev pub HeardAs : ℕ → ℕ → Task → Task → Type 0
 HeardAs k l x y = ((onMachine k x ≡ false) × (y ≡ x)) ⊎ ((onMachine k x ≡ true) × (eqb l (x .life) ≡ true) × (p : Phase) × (isWaiting p ≡ false) × (y ≡ phased p x))
 
-pub told : (b : Bool) → isWaiting (cond b Ready Told) ≡ false
+told : (b : Bool) → isWaiting (cond b Ready Told) ≡ false
 told true = refl
 told false = refl
 

@@ -11,7 +11,7 @@ use Rattle.std.proofs.shelf.Tests.{eqb-true, eqb-false}
 use Rattle.model.specs.State.{Machine, State}
 use Rattle.model.specs.Lists.{some, find}
 use Rattle.model.specs.Calls.{Seen, Order, seenAs}
-use Rattle.model.specs.World.{Agent, Word, Up, Back, isOrder, isSeen, mayRun, isReadyIn, obeys}
+use Rattle.model.specs.World.{Agent, Word, Up, Back, isOrder, isSeen, mayRun, isReadyIn, obeys, reported, running}
 use Rattle.model.proofs.Lists.{never, In, some-at, some-not, in-keep, Pass, goes, pass-same, pass-keep, pass-from, once-pass}
 use Rattle.model.proofs.Hold.{OnIt}
 use Rattle.model.proofs.Worlds.Agreement.{News, At, Agrees}
@@ -30,9 +30,6 @@ seen-all rs (p ∷ os) o i e = pick (eqb (o .id) (p .id)) refl e i (λ e′ j. s
     pick true q h k r = never (cc)
     pick false q h (inl k) r = eqb-false (o .id) (p .id) q (ap (λ (z : Order). z .id) k)
     pick false q h (inr k) r = r h k
-
-abbrev pub reported : Agent → Agent
-reported a = record { life = a .life; number = a .number + 1; ordered = a .ordered; runs = a .runs }
 
 pub agrees-reports : (s : State) (ws : List Word) (i : ℕ) (a : Agent) → Agrees s ws i a → Agrees s (Up i (a .life) (a .number + 1) (mayRun (a .runs) (a .ordered)) ∷ ws) i (reported a)
 agrees-reports s ws i a g = record { ups = ups; backs = backs; ordered = g .ordered; runs = g .runs; once = g .once }
@@ -87,10 +84,7 @@ SameId x y = y .id ≡ x .id
 abbrev pub AnySeen : Seen → Type 0
 AnySeen x = Unit {0}
 
-abbrev pub withRuns : List Seen → Agent → Agent
-withRuns rs a = record { life = a .life; number = a .number; ordered = a .ordered; runs = rs }
-
-pub agrees-runs : (s : State) (ws : List Word) (i : ℕ) (a : Agent) (rs : List Seen) → Pass AnySeen SameId (a .runs) rs → Agrees s ws i a → Agrees s ws i (withRuns rs a)
+pub agrees-runs : (s : State) (ws : List Word) (i : ℕ) (a : Agent) (rs : List Seen) → Pass AnySeen SameId (a .runs) rs → Agrees s ws i a → Agrees s ws i (running rs a)
 agrees-runs s ws i a rs p g =
     record {
       ups = g .ups;
@@ -107,7 +101,7 @@ pass-behind (b ∷ bs) xs ys p = goes refl (pass-behind bs xs ys p)
 pub pass-all : (xs : List Seen) → Pass AnySeen SameId xs xs
 pass-all xs = pass-same AnySeen SameId xs (λ x i. refl)
 
-pub agrees-starts : (s : State) (ws : List Word) (i : ℕ) (a : Agent) (o : Order) → In o (a .ordered) → some (isSeen (o .id)) (a .runs) ≡ false → Agrees s ws i a → Agrees s ws i (withRuns (record { id = o .id; ready = false } ∷ a .runs) a)
+pub agrees-starts : (s : State) (ws : List Word) (i : ℕ) (a : Agent) (o : Order) → In o (a .ordered) → some (isSeen (o .id)) (a .runs) ≡ false → Agrees s ws i a → Agrees s ws i (running (record { id = o .id; ready = false } ∷ a .runs) a)
 agrees-starts s ws i a o j n g = record { ups = g .ups; backs = g .backs; ordered = g .ordered; runs = runs; once = (λ y k. some-not (isSeen (o .id)) (a .runs) n y k, g .once) }
   where
     runs : (x : Seen) → In x (record { id = o .id; ready = false } ∷ a .runs) → (p : Order) × In p (a .ordered) × (p .id ≡ x .id)

@@ -1,4 +1,4 @@
--- What holds between the herd, the words that were sent and each agent, and that it goes on holding where the herd keeps what an agent counts on, where an agent comes up anew, and where another agent says something.
+-- What holds between the herd, the words that were sent and each agent, and that it goes on holding where the herd keeps what an agent counts on, where an agent comes up risen, and where another agent says something.
 -- Assumes nothing.
 use mathlib.Core.Path.{_≡_, sym, _∙_, subst}
 use mathlib.Core.Logic.{_⊎_, inl, inr}
@@ -10,7 +10,7 @@ use lib.Dec.{eqb}
 use Rattle.std.proofs.shelf.Tests.{eqb-true, eqb-false, cond-both}
 use Rattle.model.specs.State.{Machine, State}
 use Rattle.model.specs.Calls.{Seen, Order, seenAs}
-use Rattle.model.specs.World.{Agent, Word, Up, Back, World, put}
+use Rattle.model.specs.World.{Agent, Word, Up, Back, World, put, risen}
 use Rattle.model.proofs.Lists.{never, In, Once}
 use Rattle.model.proofs.Hold.{OnIt}
 use Rattle.model.proofs.Keeps.{Sound, Keeps}
@@ -65,10 +65,7 @@ agrees-keeps s u ws i a k g =
 
 -- AN AGENT COMES UP ANEW, AND ANY HERD WILL DO
 
-abbrev pub anew : Agent → Agent
-anew a = record { life = a .life + 1; number = 0; ordered = []; runs = [] }
-
-pub agrees-anew : (s u : State) (ws : List Word) (i : ℕ) (a : Agent) → Agrees s ws i a → Agrees u ws i (anew a)
+pub agrees-anew : (s u : State) (ws : List Word) (i : ℕ) (a : Agent) → Agrees s ws i a → Agrees u ws i (risen a)
 agrees-anew s u ws i a g =
     record {
       ups = λ l n xs j. let h : l ≤ a .life = g .ups l n xs j .0 in (omega arith, λ e. absurd (omega arith), λ e. absurd (omega arith));

@@ -22,7 +22,7 @@ use Rattle.model.proofs.Worlds.Hearing.{mi}
 use Rattle.model.proofs.Worlds.Moves.{inv-reach}
 
 -- what runs on a machine is a task that the herd has there
-runs-on : (w : World) → Inv w → (i : ℕ) (x : Seen) → In x (ran w i) → OnIt (w .herd .tasks) i (x .id)
+pub runs-on : (w : World) → Inv w → (i : ℕ) (x : Seen) → In x (ran w i) → OnIt (w .herd .tasks) i (x .id)
 runs-on w h i x j = let g = h .agents i in let o = g .runs x j in let t = g .ordered (o .0) (o .1) .1 in (t .0, t .1, t .2 ∙ o .2, t .3)
 
 pub never-too-much-in-any-life : NeverTooMuchInAnyLife
