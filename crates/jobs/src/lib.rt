@@ -10,3 +10,5 @@ pub mod rows;
 pub mod spec;
 pub mod tasks;
 pub mod moves;
+pub mod job;
+pub mod kinds;
