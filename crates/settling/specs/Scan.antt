@@ -15,6 +15,7 @@ use Rattle.model.specs.State.{isMachine, isReady, isEnding, ofJob}
 use Rattle.model.specs.Settle.{mine, alive, newOnes, oldOnes, readyOnes, sure, present}
 use Rattle.model.proofs.Settles.{Tidy}
 use Rattle.jobs.specs.Rows.{span}
+use Rattle.jobs.specs.Tables.{stateOf, TasksOnly}
 use Rattle.settling.specs.declared.tally.Picks.{Picks}
 use Rattle.settling.specs.declared.tally.Tally.{Tally}
 
@@ -74,3 +75,19 @@ pub record Tallied (j : s.Job) (st : s.State) (f : ℕ → List s.Task) (n : ℕ
   pub oldBusy : LastAt f n (r .old .busy) (readyOnes (oldOnes j (alive (mine j (span f 0 n)))))
   pub newIdle : LastAt f n (r .newer .idle) (spares st (newOnes j (alive (mine j (span f 0 n)))))
   pub newBusy : LastAt f n (r .newer .busy) (readyOnes (newOnes j (alive (mine j (span f 0 n)))))
+
+-- WHO ENDS
+
+abbrev pub pickEnd : Bool → Picks → Option ℕ
+pickEnd enough p = elim (p .idle) [ Some i ↦ Some i | None ↦ cond enough (p .busy) None ]
+
+-- the row of the one task in xs, if there is one
+abbrev pub OneAt : (ℕ → List s.Task) → ℕ → Option ℕ → List s.Task → Type 0
+OneAt f n o xs = Cases o (xs ≡ []) (λ i. (t : s.Task) × (i < n) × (f i ≡ t ∷ []) × (xs ≡ t ∷ []))
+
+-- THE PASS, ROW BY ROW
+
+-- the state is u now; jobs and machines stay
+pub record Became (u : s.State) (home live home' live' : List ℕ) (time : ℕ) : Type 0 where
+  pub state : stateOf home' live' time ≡ u
+  pub frame : TasksOnly home live home' live'

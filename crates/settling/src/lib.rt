@@ -3,3 +3,6 @@
 pub mod presence;
 pub mod tally;
 pub mod counting;
+pub mod ending;
+pub mod growing;
+pub mod stepping;
