@@ -12,3 +12,4 @@ pub mod tasks;
 pub mod moves;
 pub mod job;
 pub mod kinds;
+pub mod finding;

@@ -4,3 +4,4 @@ pub mod Middles
 pub mod Picking
 pub mod Growth
 pub mod Steps
+pub mod Sweeps

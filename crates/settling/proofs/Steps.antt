@@ -93,3 +93,11 @@ module _ (j : s.Job) (home live : List ℕ) (time : ℕ) (fits : homeWords ≤ l
 
   pub for-grow : (home' live' : List ℕ) → oldToEnd j (stateOf home live time) ≡ [] → ltb (j .count) (length (newOnes j (alive (mine j (tasksOf home live))))) ≡ false → stateOf home' live' time ≡ grows j (stateOf home live time) → TasksOnly home live home' live' → Became (forJob j (stateOf home live time)) home live home' live' time
   for-grow home' live' e f q fr = record { state = q ∙ sym (way-grow j (stateOf home live time) e f); frame = fr }
+
+pub became-job : (home live home' live' : List ℕ) (time j : ℕ) (row : List ℕ) (x : s.Job) → row ≡ jobRow home j → (at row 0 ≡ 0 → ⊥) → x ≡ jobFrom row → Became (forJob x (stateOf home live time)) home live home' live' time → Became (forJobs (jobAt home j) (stateOf home live time)) home live home' live' time
+became-job home live home' live' time j row x r ne e b = record {
+    state = b .state ∙ ap (λ (y : s.Job). forJob y (stateOf home live time)) (e ∙ ap jobFrom r) ∙ jobs-one home j (stateOf home live time) row r ne;
+    frame = b .frame }
+
+pub became-none : (home live : List ℕ) (time j : ℕ) (row : List ℕ) → row ≡ jobRow home j → at row 0 ≡ 0 → Became (forJobs (jobAt home j) (stateOf home live time)) home live home live time
+became-none home live time j row r z = record { state = jobs-none home j (stateOf home live time) row r z; frame = frame-none home live }

@@ -6,3 +6,4 @@ pub mod counting;
 pub mod ending;
 pub mod growing;
 pub mod stepping;
+pub mod sweeping;
