@@ -4,3 +4,4 @@ pub mod Words
 pub mod Frames
 pub mod TaskRows
 pub mod MoveLaws
+pub mod Finds

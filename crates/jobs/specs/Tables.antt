@@ -7,6 +7,8 @@ use Prim.Native.Nat.{ℕ, min, _+_, _-_, _*_, _/_, _%_, _^_, _<_, _≤_}
 use lib.Dec.{eqb}
 use lib.ListN.{length, getD, take, drop}
 use Rattle.std.specs.Iters.{counting}
+use Rattle.std.specs.declared.option.Option.{Option}
+use Rattle.std.specs.Options.{Cases}
 use Rattle.model.specs.State as s
 use Rattle.jobs.specs.Layout.{jobBase, machineBase, taskBase, readyBase}
 use Rattle.jobs.specs.Rows.{at, rowAt, span, Only}
@@ -139,3 +141,7 @@ pub record TasksNow (ts : List s.Task) (home live home' live' : List ℕ) : Type
 pub record RowPut (i : ℕ) (r home home' : List ℕ) : Type 0 where
   pub here : taskRow home' i ≡ r
   pub only : Only (taskBase + i * 27) (taskBase + i * 27 + 27) home' home
+
+-- FINDING: o is the row of the one in xs, or there is none
+abbrev pub FoundAt : {X : Type 0} → (ℕ → List X) → ℕ → Option ℕ → List X → Type 0
+FoundAt {X} f n o xs = Cases o (xs ≡ []) (λ i. (x : X) × (i < n) × (f i ≡ x ∷ []) × (xs ≡ x ∷ []))

@@ -7,6 +7,7 @@ use Rattle.model.specs.State as s
 use Rattle.jobs.specs.declared.name.Name.{Name}
 use Rattle.jobs.specs.declared.spec.Spec.{Spec}
 use Rattle.jobs.specs.declared.phase.Place.{Place}
+use Rattle.jobs.specs.declared.job.Job.{Job}
 use Rattle.jobs.specs.declared.phase.Phase.{Phase}
 use Rattle.jobs.specs.declared.phase.Phase.the-variants.{Waiting, Told, Ready, Ending}
 use Rattle.jobs.specs.Tables.{bytesOf}
@@ -35,3 +36,6 @@ lifeOf Waiting = 0
 lifeOf (Told p) = p .life .0
 lifeOf (Ready p) = p .life .0
 lifeOf (Ending p) = p .life .0
+
+abbrev pub jobOf : Job → s.Job
+jobOf j = record { name = nameOf (j .name); version = j .version .0; spec = specOf (j .spec); count = j .count; least = j .least; most = j .most }

@@ -10,3 +10,6 @@ pub mod rows;
 pub mod spec;
 pub mod tasks;
 pub mod moves;
+pub mod job;
+pub mod kinds;
+pub mod finding;

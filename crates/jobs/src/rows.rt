@@ -1,7 +1,7 @@
 // The rows, as parts of the words.
 ghost use mathlib.Core.Path.{_≡_};
 ghost use Prim.Native.Nat.{ℕ, min, _+_, _*_, _<_, _≤_};
-ghost use lib.ListN.{length, getD};
+ghost use lib.ListN.{length, getD, drop};
 ghost use Rattle.jobs.specs.Layout.{homeWords, liveWords};
 ghost use Rattle.jobs.specs.Tables.{jobRow, machineRow, taskRow, jobRows, machineRows, taskRows};
 use crate::layout::*;
@@ -14,6 +14,15 @@ pub fn task_row(home: &[u64], i: usize) -> &[u64]
     ensures long { λ r. ⌜ length (now r) ≡ 27 ⌝ }
 {
     &home[TASK_BASE + i * TASK_WIDTH..TASK_BASE + i * TASK_WIDTH + TASK_WIDTH]
+}
+
+// The kind in a task's row.
+pub fn task_kind(row: &[u64]) -> &[u64]
+    requires { ⌜ length (now row) ≡ 27 ⌝ }
+    ensures is { λ r. ⌜ now r ≡ drop 4 (now (row .entry)) ⌝ }
+    ensures long { λ r. ⌜ length (now r) ≡ 23 ⌝ }
+{
+    &row[4..27]
 }
 
 // Row `i` of the jobs.
