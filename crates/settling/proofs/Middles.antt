@@ -12,8 +12,9 @@ use Rattle.model.specs.Lists.{some, keep, change}
 use Rattle.model.specs.State as s
 use Rattle.model.specs.State.{isTask, isWaiting, phased, placed}
 use Rattle.model.specs.Settle.{ended, place}
-use Rattle.model.proofs.Lists.{In, not-some}
-use Rattle.model.proofs.Tasks.{Rising, rising-over}
+use Rattle.model.proofs.Lists.Members.{In}
+use Rattle.model.proofs.Lists.Chosen.{not-some}
+use Rattle.model.proofs.Tasks.ByNumber.{Rising, rising-over}
 use Rattle.jobs.specs.Changes.{endEach, placeEach}
 
 module _ {X : Type 0} where

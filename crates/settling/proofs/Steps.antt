@@ -15,7 +15,7 @@ use Rattle.model.specs.Lists.{none}
 use Rattle.model.specs.State as s
 use Rattle.model.specs.State.{withTasks}
 use Rattle.model.specs.Settle.{mine, alive, newOnes, ended, grows, oldToEnd, newToEnd, forJob, forJobs}
-use Rattle.model.proofs.Tasks.{Rising}
+use Rattle.model.proofs.Tasks.ByNumber.{Rising}
 use Rattle.jobs.specs.Layout.{homeWords}
 use Rattle.jobs.specs.Rows.{at}
 use Rattle.jobs.specs.Tables.{taskAt, taskRows, tasksOf, tasksBefore, tasksBehind, jobFrom, jobRow, jobAt, stateOf, TasksOnly, TaskPut}

@@ -13,10 +13,12 @@ use Rattle.model.specs.Lists.{some, find, same}
 use Rattle.model.specs.State as s
 use Rattle.model.specs.State.{isJob, isWaiting, phased}
 use Rattle.model.specs.Settle.{orphansEnd, forJob, forJobs}
-use Rattle.model.proofs.Lists.{In, find-none, not-some, some-from}
-use Rattle.model.proofs.Tasks.{same-sym, unsame-sym, steps-are}
+use Rattle.model.proofs.Lists.Members.{In}
+use Rattle.model.proofs.Lists.Chosen.{find-none, not-some, some-from}
+use Rattle.model.proofs.Tasks.Names.{same-sym, unsame-sym}
+use Rattle.model.proofs.Tasks.Steps.{steps-are}
 use Rattle.model.proofs.Settles.{Tidy, tidy-step}
-use Rattle.model.proofs.Keeps.{find-in}
+use Rattle.model.proofs.Lists.Chosen.{find-in}
 use Rattle.jobs.specs.Layout.{homeWords}
 use Rattle.jobs.specs.Rows.{at, span}
 use Rattle.jobs.specs.Tables.{taskAt, taskRows, tasksOf, jobAt, jobRows, jobsOf, stateOf, TasksOnly, TaskPut, TasksNow}

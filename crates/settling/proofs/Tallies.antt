@@ -17,7 +17,7 @@ use Rattle.model.specs.Lists.{keep, lastOf, some, same}
 use Rattle.model.specs.State as s
 use Rattle.model.specs.State.{isReady, isEnding, isWaiting}
 use Rattle.model.specs.Settle.{mine, alive, newOnes, oldOnes, readyOnes, sure}
-use Rattle.model.proofs.Lists.{keep-keep}
+use Rattle.model.proofs.Lists.Kept.{keep-keep}
 use Rattle.jobs.specs.Rows.{at, span}
 use Rattle.jobs.specs.Tables.{nameFrom, versionFrom, specFrom, phaseFrom, taskFrom, taskRow, taskAt, machinesOf, stateOf}
 use Rattle.jobs.proofs.Spans.{span-more, span-none}
