@@ -1,4 +1,3 @@
-pub mod Numbers
 pub mod Holding
 pub mod Refusing
 pub mod Saying

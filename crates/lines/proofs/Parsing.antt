@@ -13,7 +13,7 @@ use Rattle.std.proofs.shelf.Tests.{eq-eqb, ne-eqb, le-leb, lt-leb}
 use Rattle.model.specs.State.{Spec}
 use Rattle.model.specs.Calls.{AddMachine, Report, SetJob}
 use Rattle.model.specs.Wire.{Bytes, Read, garbled, meant, byteAt, field, isFlag, tagsIn, seensIn, flagsIn, specIn, readSetOf, readSet, readAdd, readReport, readKind, readCall}
-use Rattle.lines.proofs.Numbers.{length-take-under}
+use Rattle.bytes.proofs.Numbers.{length-take-under}
 use Rattle.calls.specs.Meaning.{tagsOf, seensOf}
 
 -- all that is behind a place

@@ -10,7 +10,7 @@ use Rattle.std.proofs.shelf.Tests.{ne-eqb}
 use Rattle.model.specs.State.{blank}
 use Rattle.model.specs.Wire.{Bytes, Refused, readCall}
 use Rattle.model.specs.Lines.{framed, tagIn, callIn, kindIn, isKnown, refuses, callSays, bytesSay, noKind, answerLine}
-use Rattle.lines.proofs.Numbers.{bytesOf-four}
+use Rattle.bytes.proofs.Numbers.{bytesOf-four}
 
 pub refused-bytes : (tag k : ℕ) → framed tag (0 ∷ k ∷ []) ≡ 0 ∷ 0 ∷ 0 ∷ 6 ∷ tag / 16777216 % 256 ∷ tag / 65536 % 256 ∷ tag / 256 % 256 ∷ tag % 256 ∷ 0 ∷ k ∷ []
 refused-bytes tag k = rw (bytesOf-four 6, bytesOf-four tag)

@@ -1,9 +1,7 @@
 // Lines: calls and answers as bytes, and the function that answers a line.
 pub mod answer;
-pub mod field;
 pub mod hex;
 pub mod line;
-pub mod number;
 pub mod read;
 pub mod reader;
 pub mod stage;

@@ -5,7 +5,7 @@ ghost use Prim.Native.Nat.{ℕ};
 ghost use lib.ListN.{take};
 ghost use Rattle.model.specs.Lines.{callIn, kindIn, tagIn};
 ghost use Rattle.lines.specs.Held.{Holds, callRoom};
-use crate::number::value;
+use bytes::number::value;
 
 // The longest line that may be done: a frame with a report of 2,048 tasks.
 pub const ROOM: usize = 18_461;

@@ -6,9 +6,9 @@ ghost use Rattle.model.specs.Wire.{flagsIn, readAdd, readCall, readKind, readMa
 ghost use Rattle.model.specs.Calls.{Close, EndJob, Forget, Reopen, Show};
 ghost use Rattle.calls.specs.Meaning.{likeOf};
 ghost use Rattle.lines.specs.Reads.{Named, Numbered, ReadAs};
-use crate::field::u16_at;
-use crate::field::u32_at;
-use crate::field::u64_at;
+use bytes::field::u16_at;
+use bytes::field::u32_at;
+use bytes::field::u64_at;
 use calls::call::Added;
 use calls::call::Call;
 use calls::call::Likeness;

@@ -1,6 +1,6 @@
 use mathlib.Core.Path.{_≡_, sym, _∙_, ap}
 use Rattle.model.specs.Wire.{bytesOf}
-use Rattle.lines.proofs.Numbers.{bytesOf-four, bytesOf-eight, length-bytesOf}
+use Rattle.bytes.proofs.Numbers.{bytesOf-four, bytesOf-eight, length-bytesOf}
 use Rattle.lines.proofs.reader.time_line.Needs as need
 
 pub returns : need.returns

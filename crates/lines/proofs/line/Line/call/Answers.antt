@@ -5,7 +5,7 @@ use borrow.Author.Needs.{needs}
 use mathlib.Core.List.{List}
 use lib.ListN.{length, take, drop}
 use Rattle.lines.proofs.Holding.{call-short, call-misframed, call-held}
-use Rattle.lines.proofs.Numbers.{length-take-under}
+use Rattle.bytes.proofs.Numbers.{length-take-under}
 use Rattle.lines.proofs.line.Line.call.Needs.{then-self, else-self, then-self-lt8·by·then-self-lt8, then-self-lt8·by·else-self-lt8·then-value-self}
 use Rattle.lines.proofs.line.Line.call.Needs as need
 

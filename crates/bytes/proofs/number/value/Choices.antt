@@ -1,7 +1,7 @@
 use mathlib.Core.Path.{_≡_}
 use lib.ListN.{take}
 use Rattle.model.specs.Wire.{valueOf}
-use Rattle.lines.proofs.number.value.Given as given
+use Rattle.bytes.proofs.number.value.Given as given
 
 -- what was read so far
 abbrev pub Inv-loop-b : given.InvT-loop-b

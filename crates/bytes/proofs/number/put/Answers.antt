@@ -3,8 +3,8 @@ use Prim.Native.Nat.{_≤_}
 use native.Mathlib.Omega.{arith}
 use lib.ListN.{length, drop}
 use Rattle.model.specs.Wire.{bytesOf}
-use Rattle.lines.proofs.Numbers.{put-none, put-more, put-all}
-use Rattle.lines.proofs.number.put.Needs as need
+use Rattle.bytes.proofs.Numbers.{put-none, put-more, put-all}
+use Rattle.bytes.proofs.number.put.Needs as need
 
 pub loop-i-holds : need.loop-i-holds
 loop-i-holds c = put-none (c .args .out .now) (c .args .number)

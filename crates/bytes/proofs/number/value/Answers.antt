@@ -5,8 +5,8 @@ use lib.ListN.{length, take, getD}
 use Rattle.std.proofs.shelf.Digits.{number-more}
 use Rattle.std.proofs.shelf.Lists.{take-all}
 use Rattle.model.specs.Wire.{valueOf}
-use Rattle.lines.proofs.Numbers.{value-room, value-lt, bytes-under}
-use Rattle.lines.proofs.number.value.Needs as need
+use Rattle.bytes.proofs.Numbers.{value-room, value-lt, bytes-under}
+use Rattle.bytes.proofs.number.value.Needs as need
 
 pub mul-n : need.mul-n
 mul-n c = let r = value-room (c .args .bytes .now) (c .loop-b .b-index) (c .loop-b-test .taken) (c .pre) (λ k. let h = c .typed .bytes k in omega arith) in omega (arith, r, c .loop-b .inv)
