@@ -1,2 +1,3 @@
 // Calls and answers, as values of the code: what is said to the herd, and what it says.
 pub mod call;
+pub mod seen;
