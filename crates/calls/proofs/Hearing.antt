@@ -2,14 +2,16 @@
 -- Assumes nothing.
 use mathlib.Core.Path.{_≡_, refl, sym, _∙_, ap}
 use mathlib.Core.Bool.{Bool, true, false, cond, _&&_, not}
-use mathlib.Core.List.{List, [], _∷_, _++_}
+use mathlib.Core.List.{List, [], _∷_, _++_, append-assoc}
+use mathlib.Core.Logic.{inl, inr}
 use Prim.Native.Nat.{ℕ}
 use native.Mathlib.Omega.{arith}
 use lib.Dec.{eqb}
-use Rattle.std.proofs.shelf.Tests.{eq-eqb, ne-eqb, true≢false}
+use Rattle.std.proofs.shelf.Tests.{eq-eqb, ne-eqb, true≢false, cases-bool}
 use Rattle.model.specs.State.{Task, Phase, Waiting, Told, Ready, Ending, isWaiting, isEnding, phased}
 use Rattle.model.specs.Calls.{Seen, seenAs, heardOf, heardAll}
 use Rattle.jobs.specs.Changes.{markEach, markedPhase}
+use Rattle.calls.proofs.Sweep.{Each}
 
 -- a task that waits is on no machine
 pub hear-waits : (k l : ℕ) (xs : List Seen) (t : Task) → t .phase ≡ Waiting → heardAll k l xs (t ∷ []) ≡ t ∷ []
@@ -48,3 +50,19 @@ module _ (k l : ℕ) (xs : List Seen) (t : Task) (w : isWaiting (t .phase) ≡ f
     pub hear-marked : (x : Seen) (b : Bool) → isEnding (t .phase) ≡ false → seenAs (t .id) xs ≡ x ∷ [] → x .ready ≡ b → heardAll k l xs (t ∷ []) ≡ markEach b (t ∷ [])
     unfolding heardAll heardOf
     hear-marked x b n s r = rw (w, eq-eqb k (t .machine) e, eq-eqb l (t .life) f, s, n, r, ← marks b (t .phase) w n)
+
+pub hear-none : (k l : ℕ) (xs : List Seen) → heardAll k l xs [] ≡ []
+unfolding heardAll
+hear-none k l xs = refl
+
+-- a report goes task by task
+hear-both : (k l : ℕ) (xs : List Seen) (ts us : List Task) → heardAll k l xs (ts ++ us) ≡ heardAll k l xs ts ++ heardAll k l xs us
+unfolding heardAll
+hear-both k l xs [] us = refl
+hear-both k l xs (t ∷ ts) us =
+    elim (cases-bool (not (isWaiting (t .phase)) && eqb k (t .machine)))
+    [ inl a ↦ elim (cases-bool (eqb l (t .life))) [ inl b ↦ rw (a, b, hear-both k l xs ts us) (sym (append-assoc (heardOf (seenAs (t .id) xs) t) (heardAll k l xs ts) (heardAll k l xs us))) | inr b ↦ rw (a, b, hear-both k l xs ts us) ]
+    | inr a ↦ rw (a, hear-both k l xs ts us) ]
+
+pub hear-each : (k l : ℕ) (xs : List Seen) → Each (heardAll k l xs)
+hear-each k l xs = record { none = hear-none k l xs; both = hear-both k l xs }

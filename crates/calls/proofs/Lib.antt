@@ -1,3 +1,4 @@
 pub mod Reports
 pub mod Hearing
 pub mod Sweep
+pub mod TaskIn

@@ -3,3 +3,4 @@ pub mod call;
 pub mod heard;
 pub mod outcome;
 pub mod seen;
+pub mod sweeps;
