@@ -9,7 +9,7 @@ use lib.Dec.{eqb, T}
 use lib.ListN.{length}
 use Rattle.model.specs.Lists.{some, keep, find, change, none}
 use Rattle.model.specs.State.{Name, Machine, Spec, Job, Ending, Task, State, isWaiting, isReady, isEnding, isJob, isMachine, ofJob, onMachine, phased, withJobs, withMachines, cpuOf, memOf}
-use Rattle.model.specs.Settle.{mine, readyOnes, here, takes, settle}
+use Rattle.model.specs.Settle.{mine, readyOnes, present, here, takes, settle}
 use Rattle.model.specs.Calls.{Seen, Call, SetJob, EndJob, AddMachine, Close, Reopen, Forget, Report, Tick, Show, Order, Reply, No, Yes, Run, newJob, resetJob, newMachine, opened, heard, forgotten, later, timed, does}
 use Rattle.model.specs.World.{World, Agent, isOrder, Step, Reach}
 use Rattle.model.specs.Memory.{Happens, MayHappen}
@@ -139,6 +139,15 @@ NeverWaits = (w : World) → Reach w → NoneWaits (w .herd)
 -- and so of the herd alone, whichever calls are built: whatever may have happened, its state is good, and no task waits that a machine would take
 abbrev pub WhateverHappens : Type 0
 WhateverHappens = (can : Call → Bool) (es : List (Happens Call Reply)) (s : State) → MayHappen (herd can) es s → Good s × NoneWaits s
+
+-- READY IS NO GUESS
+
+-- a ready task is on a machine that the herd has and that is present
+abbrev pub ReadyThere : State → Type 0
+ReadyThere s = (t : Task) → List·Memᴰ t (s .tasks) → T (isReady (t .phase)) → (m : Machine) × List·Memᴰ m (s .machines) × (m .num ≡ t .machine) × T (present (s .now) m)
+
+abbrev pub AlwaysReadyThere : Type 0
+AlwaysReadyThere = (w : World) → Reach w → ReadyThere (w .herd)
 
 -- REFUSALS
 
