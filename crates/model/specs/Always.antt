@@ -8,7 +8,7 @@ use Prim.Native.Nat.{ℕ, _+_, _≤_}
 use lib.Dec.{eqb, T}
 use lib.ListN.{length}
 use Rattle.model.specs.Lists.{some, keep, find, change, none}
-use Rattle.model.specs.State.{Name, Machine, Spec, Job, Ending, Task, State, isWaiting, isReady, isEnding, isJob, isMachine, ofJob, onMachine, phased, withJobs, withMachines, cpuOf, memOf}
+use Rattle.model.specs.State.{Name, Machine, Spec, Job, Ending, Task, State, isWaiting, isReady, isEnding, isJob, isMachine, ofJob, onMachine, phased, withJobs, withMachines}
 use Rattle.model.specs.Settle.{mine, readyOnes, present, here, takes, settle}
 use Rattle.model.specs.Calls.{Seen, Call, SetJob, EndJob, AddMachine, Close, Reopen, Forget, Report, Tick, Show, Order, Reply, No, Yes, Run, newJob, resetJob, newMachine, opened, heard, forgotten, later, timed, does}
 use Rattle.model.specs.World.{World, Agent, isOrder, Step, Reach}
@@ -81,7 +81,7 @@ abbrev pub Unlowered : {w : World} → Name → Reach w → Type 0
 Unlowered n Reach.begin = Unit {0}
 Unlowered n (Reach.then r s) = Unlowered n r × SparesIn n s
 
--- what runs is a task of that job
+-- what runs is a task of that job. (Whatever runs is a task that the herd has: NeverTooMuch.)
 abbrev pub isOf : Name → List Task → Seen → Bool
 isOf n ts x = some (λ (t : Task). eqb (t .id) (x .id) && ofJob n t) ts
 
