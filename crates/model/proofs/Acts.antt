@@ -4,6 +4,6 @@
 pub mod Outcomes
 pub mod Heard
 pub mod Good
-pub use Outcomes.{Must, Pre, must-settle, sets-is, reports-is, acts-is, does-is, does-keeps, Tested, acts-when, does-when, must-from, pre-both}
+pub use Outcomes.{Must, Pre, must-settle, sets-is, reports-is, acts-is, does-is, does-keeps, does-timed, Tested, acts-when, does-when, must-from, pre-both}
 pub use Heard.{HeardGone, HeardAs, heard-pass, heard-id, heard-job}
 pub use Good.{fine-settle, once-machines, AsNum, AsId, unsure-as, fine-heard, fine-timed, fine-pre, fine-does, fine-down, stay-good}

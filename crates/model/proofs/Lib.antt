@@ -14,6 +14,7 @@ pub mod Kin
 pub mod Numbers
 pub mod Ordered
 pub mod Waits
+pub mod Present
 pub mod Replies
 pub mod Over
 pub mod Worked

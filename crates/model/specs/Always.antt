@@ -8,8 +8,8 @@ use Prim.Native.Nat.{ℕ, _+_, _≤_}
 use lib.Dec.{eqb, T}
 use lib.ListN.{length}
 use Rattle.model.specs.Lists.{some, keep, find, change, none}
-use Rattle.model.specs.State.{Name, Machine, Spec, Job, Ending, Task, State, isWaiting, isReady, isEnding, isJob, isMachine, ofJob, onMachine, phased, withJobs, withMachines, cpuOf, memOf}
-use Rattle.model.specs.Settle.{mine, readyOnes, here, takes, settle}
+use Rattle.model.specs.State.{Name, Machine, Spec, Job, Ending, Task, State, isWaiting, isReady, isEnding, isJob, isMachine, ofJob, onMachine, phased, withJobs, withMachines}
+use Rattle.model.specs.Settle.{mine, readyOnes, present, here, takes, settle}
 use Rattle.model.specs.Calls.{Seen, Call, SetJob, EndJob, AddMachine, Close, Reopen, Forget, Report, Tick, Show, Order, Reply, No, Yes, Run, newJob, resetJob, newMachine, opened, heard, forgotten, later, timed, does}
 use Rattle.model.specs.World.{World, Agent, isOrder, Step, Reach}
 use Rattle.model.specs.Memory.{Happens, MayHappen}
@@ -81,7 +81,7 @@ abbrev pub Unlowered : {w : World} → Name → Reach w → Type 0
 Unlowered n Reach.begin = Unit {0}
 Unlowered n (Reach.then r s) = Unlowered n r × SparesIn n s
 
--- what runs is a task of that job
+-- what runs is a task of that job. (Whatever runs is a task that the herd has: NeverTooMuch.)
 abbrev pub isOf : Name → List Task → Seen → Bool
 isOf n ts x = some (λ (t : Task). eqb (t .id) (x .id) && ofJob n t) ts
 
@@ -139,6 +139,15 @@ NeverWaits = (w : World) → Reach w → NoneWaits (w .herd)
 -- and so of the herd alone, whichever calls are built: whatever may have happened, its state is good, and no task waits that a machine would take
 abbrev pub WhateverHappens : Type 0
 WhateverHappens = (can : Call → Bool) (es : List (Happens Call Reply)) (s : State) → MayHappen (herd can) es s → Good s × NoneWaits s
+
+-- READY IS NO GUESS
+
+-- a ready task is on a machine that the herd has and that is present
+abbrev pub ReadyThere : State → Type 0
+ReadyThere s = (t : Task) → List·Memᴰ t (s .tasks) → T (isReady (t .phase)) → (m : Machine) × List·Memᴰ m (s .machines) × (m .num ≡ t .machine) × T (present (s .now) m)
+
+abbrev pub AlwaysReadyThere : Type 0
+AlwaysReadyThere = (w : World) → Reach w → ReadyThere (w .herd)
 
 -- REFUSALS
 

@@ -1,7 +1,7 @@
 // Of all together, at every moment of every run: one herd, any number of agents,
 // and lines that lose, double, delay and reorder, with machines and the herd falling at any time.
 ghost use Rattle.model.specs.Promise.{Anchored, NeverTooMuch, NeverTooMuchInAnyLife, NeverTwice};
-ghost use Rattle.model.specs.Always.{AlwaysTakesFew, FitsEverywhere, NeverBack, NeverOver, NeverWaits, RunsWithin, SameNumber};
+ghost use Rattle.model.specs.Always.{AlwaysReadyThere, AlwaysTakesFew, FitsEverywhere, NeverBack, NeverOver, NeverWaits, RunsWithin, SameNumber};
 
 // What runs on a machine is among the tasks that the herd counts there, and these fit.
 pub fn never_too_much() -> u8
@@ -65,6 +65,13 @@ pub fn always_takes_few() -> u8
 // No task waits that a machine would take, also after the herd went dark.
 pub fn never_waits() -> u8
     ensures { λ _. ⌜ NeverWaits ⌝ }
+{
+    0
+}
+
+// A ready task is on a machine that the herd has and that is present.
+pub fn always_ready_there() -> u8
+    ensures { λ _. ⌜ AlwaysReadyThere ⌝ }
 {
     0
 }

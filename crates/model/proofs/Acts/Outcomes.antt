@@ -83,6 +83,10 @@ does-is P c s r h = cond-both (eqb (s .now) 0 && not (isTick c)) (no 10 s) (acts
 pub does-keeps : (Q : State → Type 0) → ((u : State) → Q u → Q (settle u)) → (c : Call) (s : State) → Q s → Pre Q c s → Q (does c s .state)
 does-keeps Q h c s q p = does-is (λ (o : Out). Q (o .state)) c s (λ k. q) (must-settle Q h c s q p)
 
+-- the same, with what a call that isn't about the time may use: that a time was told
+pub does-timed : (P : Out → Type 0) (c : Call) (s : State) → ((k : ℕ) → P (no k s)) → ((eqb (s .now) 0 && not (isTick c)) ≡ false → Must P c s) → P (does c s)
+does-timed P c s r h = cond-both (eqb (s .now) 0 && not (isTick c)) (no 10 s) (acts c s) P (λ _. r 10) (λ e. acts-is P c s r (h e))
+
 -- THE SAME, WITH WHAT A CALL TESTS
 
 -- what a call was tested for when it is not refused
