@@ -5,3 +5,5 @@ pub mod Picking
 pub mod Growth
 pub mod Steps
 pub mod Sweeps
+pub mod Weighs
+pub mod Tags

@@ -7,3 +7,6 @@ pub mod ending;
 pub mod growing;
 pub mod stepping;
 pub mod sweeping;
+pub mod load;
+pub mod loads;
+pub mod choosing;
