@@ -7,3 +7,4 @@ pub mod Steps
 pub mod Sweeps
 pub mod Weighs
 pub mod Tags
+pub mod Bests
