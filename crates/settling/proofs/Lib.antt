@@ -8,3 +8,4 @@ pub mod Sweeps
 pub mod Weighs
 pub mod Tags
 pub mod Bests
+pub mod Placements

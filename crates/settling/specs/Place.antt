@@ -13,8 +13,8 @@ use Rattle.model.specs.Lists.{some, keep}
 use Rattle.model.specs.State as s
 use Rattle.model.specs.State.{isWaiting, ofJob, onMachine, cpuOf, memOf}
 use Rattle.jobs.specs.Rows.{at}
-use Rattle.model.specs.Settle.{present, left}
-use Rattle.jobs.specs.Tables.{machineRow, machineRows, taskFrom, taskRow}
+use Rattle.model.specs.Settle.{present, left, placeAll}
+use Rattle.jobs.specs.Tables.{machineRow, machineRows, machinesOf, taskFrom, taskRow, taskAt, tasksOf, TaskPut}
 use Rattle.settling.specs.declared.load.Load.{Load}
 use Rattle.settling.specs.declared.load.Weight.{Weight}
 use Rattle.settling.specs.declared.load.Choice.{Choice}
@@ -65,3 +65,13 @@ Chosen f n ts r xs = Cases r (xs ≡ []) (λ c. (m : s.Machine) × (c .at < n) �
 -- the task that the words of row i stand for, were it no hole
 abbrev pub taskIn : List ℕ → List ℕ → ℕ → s.Task
 taskIn home live i = taskFrom (taskRow home i) (at live (256 + i))
+
+-- ONE ROW, THEN ALL
+
+abbrev pub waits : List s.Task → List s.Task
+waits ts = keep (λ (t : s.Task). isWaiting (t .phase)) ts
+
+-- the task in row i is placed if it waits and a machine takes it; all else stays
+pub record PlacedRow (i : ℕ) (home live home' live' : List ℕ) (time : ℕ) : Type 0 where
+  pub put : (xs : List s.Task) × TaskPut i xs home live home' live'
+  pub tasks : tasksOf home' live' ≡ placeAll time (machinesOf home live) (waits (taskAt home live i)) (tasksOf home live)

@@ -10,3 +10,5 @@ pub mod sweeping;
 pub mod load;
 pub mod loads;
 pub mod choosing;
+pub mod placing;
+pub mod pass;
