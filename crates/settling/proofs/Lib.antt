@@ -5,3 +5,7 @@ pub mod Picking
 pub mod Growth
 pub mod Steps
 pub mod Sweeps
+pub mod Weighs
+pub mod Tags
+pub mod Bests
+pub mod Placements

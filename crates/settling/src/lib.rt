@@ -7,3 +7,8 @@ pub mod ending;
 pub mod growing;
 pub mod stepping;
 pub mod sweeping;
+pub mod load;
+pub mod loads;
+pub mod choosing;
+pub mod placing;
+pub mod pass;
