@@ -13,8 +13,11 @@ use Rattle.model.specs.Lists.{keep}
 use Rattle.model.specs.State as s
 use Rattle.model.specs.State.{isWaiting, placed, withTasks}
 use Rattle.model.specs.Settle.{takes, best, place, placeAll, placing, orphansEnd, forJobs, unplaced, settle}
-use Rattle.model.proofs.Lists.{In, in-keep}
-use Rattle.model.proofs.Tasks.{Rising, Queue, Put, put-id, Never, places-pass, orphans-pass}
+use Rattle.model.proofs.Lists.Members.{In}
+use Rattle.model.proofs.Lists.Kept.{in-keep}
+use Rattle.model.proofs.Tasks.ByNumber.{Rising}
+use Rattle.model.proofs.Tasks.Placing.{Queue, Put, put-id, Never, places-pass}
+use Rattle.model.proofs.Tasks.Steps.{orphans-pass}
 use Rattle.model.proofs.Settles.{Tidy, tidy-pass, tidy-unplaced, tidy-settle, orphan-id}
 use Rattle.jobs.specs.Layout.{homeWords}
 use Rattle.jobs.specs.Rows.{at, span}
