@@ -1,3 +1,4 @@
 pub mod Meaning
 pub mod Seen
 pub mod Heard
+pub mod Answers

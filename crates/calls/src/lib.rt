@@ -1,4 +1,5 @@
 // Calls and answers, as values of the code: what is said to the herd, and what it says.
+pub mod answer;
 pub mod call;
 pub mod heard;
 pub mod outcome;
