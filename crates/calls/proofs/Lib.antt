@@ -2,3 +2,4 @@ pub mod Reports
 pub mod Hearing
 pub mod Sweep
 pub mod TaskIn
+pub mod Doubting
