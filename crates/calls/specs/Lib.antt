@@ -2,3 +2,4 @@ pub mod Meaning
 pub mod Seen
 pub mod Heard
 pub mod Answers
+pub mod Machines

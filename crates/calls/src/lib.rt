@@ -2,6 +2,7 @@
 pub mod answer;
 pub mod call;
 pub mod heard;
+pub mod machines;
 pub mod outcome;
 pub mod seen;
 pub mod sweeps;
