@@ -1,4 +1,4 @@
-pub mod Reports
+pub mod Listed
 pub mod Hearing
 pub mod Sweep
 pub mod TaskIn
@@ -6,3 +6,5 @@ pub mod Doubting
 pub mod Parts
 pub mod Rowed
 pub mod MachineRows
+pub mod News
+pub mod Noted

@@ -41,12 +41,18 @@ heard-from r l n t h e =
     λ i. record { num = a i % 65536; cpu = low (b i); mem = low (c i); tags = take (min (g i) 16) (map low (tags i)); open' = flag (d i); life = life i; number = num i; heard = t }
 
 -- a slot that has a machine
-slot-some : (r : List ℕ) (h : ℕ) (m : s.Machine) → machineSlot r h ≡ m ∷ [] → (eqb (at r 0) 0 ≡ false) × (machineFrom r h ≡ m)
+pub slot-some : (r : List ℕ) (h : ℕ) (m : s.Machine) → machineSlot r h ≡ m ∷ [] → (eqb (at r 0) 0 ≡ false) × (machineFrom r h ≡ m)
 slot-some r h m = pick (eqb (at r 0) 0)
   where
     pick : (b : Bool) → cond b [] (machineFrom r h ∷ []) ≡ m ∷ [] → (b ≡ false) × (machineFrom r h ≡ m)
     pick true e = absurd (let z : _≡_ {A = ℕ} 0 1 = cc in omega arith)
     pick false e = (refl, cc)
+
+-- the life and the number in its row
+pub row-news : (home live row : List ℕ) (i : ℕ) (m : s.Machine) → row ≡ machineRow home i → machineAt home live i ≡ m ∷ [] → (at row 5 ≡ m .life) × (at row 6 ≡ m .number)
+row-news home live row i m r e =
+    let p = slot-some (machineRow home i) (at live i) m e .1 in
+    (ap (λ (x : List ℕ). at x 5) r ∙ ap (λ (x : s.Machine). x .life) p, ap (λ (x : List ℕ). at x 6) r ∙ ap (λ (x : s.Machine). x .number) p)
 
 module _ (home live : List ℕ) (i l n t : ℕ) (fits : 68104 ≤ length home) (flags : 2304 ≤ length live) (few : i < 256) where
   abbrev homeThen : List ℕ

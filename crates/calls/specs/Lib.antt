@@ -3,3 +3,5 @@ pub mod Seen
 pub mod Heard
 pub mod Answers
 pub mod Machines
+pub mod Acted
+pub mod Reports

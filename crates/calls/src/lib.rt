@@ -4,5 +4,6 @@ pub mod call;
 pub mod heard;
 pub mod machines;
 pub mod outcome;
+pub mod report;
 pub mod seen;
 pub mod sweeps;

@@ -1,6 +1,6 @@
 use mathlib.Core.Path.{_≡_, refl, sym, _∙_}
 use native.Mathlib.Omega.{arith}
-use Rattle.calls.proofs.Reports.{taskIn, seen-here, seen-on, seen-none, seen-all}
+use Rattle.calls.proofs.Listed.{taskIn, seen-here, seen-on, seen-none, seen-all}
 use Rattle.calls.proofs.seen.seen.Needs as need
 
 pub loop-i-holds : need.loop-i-holds
