@@ -8,3 +8,5 @@ pub mod Rowed
 pub mod MachineRows
 pub mod News
 pub mod Noted
+pub mod Outcomes
+pub mod Timed

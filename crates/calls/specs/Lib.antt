@@ -5,3 +5,4 @@ pub mod Answers
 pub mod Machines
 pub mod Acted
 pub mod Reports
+pub mod Times

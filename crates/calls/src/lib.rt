@@ -1,6 +1,7 @@
 // Calls and answers, as values of the code: what is said to the herd, and what it says.
 pub mod answer;
 pub mod call;
+pub mod clock;
 pub mod heard;
 pub mod machines;
 pub mod outcome;

@@ -7,6 +7,7 @@ ghost use Rattle.model.proofs.Settles.{Fine};
 ghost use Rattle.jobs.specs.Layout.{homeWords, liveWords};
 ghost use Rattle.jobs.specs.Tables.{stateOf};
 ghost use Rattle.calls.specs.Acted.{Acted};
+ghost use Rattle.calls.specs.declared.call.Call.the-variants.{Report};
 ghost use Rattle.model.specs.Calls.{heard};
 ghost use Rattle.model.specs.Settle.{settle as settled};
 ghost use Rattle.calls.specs.Meaning.{callOf, seensOf};
@@ -67,4 +68,21 @@ fn take(home: &mut [u64], live: &mut [u64], time: u64, i: usize, report: Reporte
     hear(home, live, report);
     note_report(home, live, i, report.life, report.number, time);
     settle(home, live, time);
+}
+
+// A report: refused, or noted, followed by a pass, and answered with all that is to run on its machine.
+pub fn report<'a>(home: &mut [u64], live: &mut [u64], time: u64, report: Reported) -> Answer<'a>
+    requires words { ⌜ homeWords ≤ length (now home) ⌝ }
+    requires flags { ⌜ liveWords ≤ length (now live) ⌝ }
+    requires fine { ⌜ Fine (stateOf (now home) (now live) time) ⌝ }
+    ensures acted { λ r. ⌜ Acted (callOf (Report (report .entry))) (now (home .entry)) (now (live .entry)) time r (now (home .exit)) (now (live .exit)) time ⌝ }
+    ensures long { λ _. ⌜ (length (now (home .exit)) ≡ length (now (home .entry))) × (length (now (live .exit)) ≡ length (now (live .entry))) ⌝ }
+{
+    match check(home, report) {
+        Err(why) => Answer::TurnedAway(why),
+        Ok(i) => {
+            take(home, live, time, i, report);
+            Answer::Run(RunOn { machine: report.machine, life: report.life, number: report.number })
+        }
+    }
 }
