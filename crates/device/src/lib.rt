@@ -1,0 +1,4 @@
+// The kept memory and all-or-nothing changes of it.
+pub mod fused;
+pub mod kept;
+pub mod lent;
