@@ -1,3 +1,5 @@
 pub mod Doings
 pub mod Steps
 pub mod Wakened
+pub mod Stores
+pub mod Goes

@@ -1,2 +1,3 @@
 pub mod Follows
 pub mod Halves
+pub mod Budget

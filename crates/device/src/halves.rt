@@ -2,6 +2,7 @@
 ghost use mathlib.Core.Path.{_≡_};
 ghost use Prim.Native.Nat.{ℕ, _+_, _*_, _<_, _≤_};
 ghost use lib.ListN.{length, getD};
+ghost use Rattle.device.specs.Budget.{Budget};
 ghost use Rattle.device.specs.Follows.{Ended, Follows};
 ghost use Rattle.device.specs.Halves.{heldAt, spareAt, turned, differs, copies, commits, wakening};
 use crate::kept::Dark;
@@ -67,7 +68,8 @@ fn copy<K: Kept>(words: &mut K, from: usize, home: &[u64]) -> Result<(), Dark>
 // Makes these the home words: all of them, or none where the power fails before the end.
 pub fn commit<K: Kept>(words: &mut K, home: &[u64]) -> Result<(), Dark>
     requires { ⌜ 2 * length (now home) < 262144 ⌝ }
-    ensures { λ r. ⌜ Follows (commits (now (home .entry))) (word (now (words .entry))) r (tt {0}) (word (now (words .exit))) ⌝ }
+    ensures follows { λ r. ⌜ Follows (commits (now (home .entry))) (word (now (words .entry))) r (tt {0}) (word (now (words .exit))) ⌝ }
+    ensures budget { λ _. ⌜ Budget (now (home .entry)) (word (now (words .entry))) ⌝ }
 {
     let at = locate(words.load(0), home.len());
     if differ(words, at.held, home) <= 1 {
