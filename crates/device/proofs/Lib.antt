@@ -3,3 +3,5 @@ pub mod Steps
 pub mod Wakened
 pub mod Stores
 pub mod Goes
+pub mod Served
+pub mod Telling

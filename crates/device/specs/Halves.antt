@@ -1,11 +1,14 @@
 -- The home words, kept twice: word 0 says which half holds; then come the words of the one and those of the other.
 -- Assumes nothing.
 use mathlib.Core.Path.{_≡_}
+use mathlib.Core.Logic.{_⊎_}
 use mathlib.Core.Bool.{cond}
 use mathlib.Core.List.{List, [], _∷_}
 use Prim.Native.Nat.{ℕ, zero, suc, _+_, _%_, _<_}
 use lib.Dec.{eqb, leb}
 use lib.ListN.{length, getD}
+use Rattle.std.specs.declared.result.Result.{Result}
+use Rattle.std.specs.Results.{Cases}
 use Rattle.model.specs.Memory.{Memory, Doing, done, load, store}
 use Rattle.device.specs.Follows.{andThen}
 
@@ -53,3 +56,7 @@ Same a ws m = (i : ℕ) → i < length ws → m (a + i) ≡ getD ws i 0
 
 abbrev pub Holds : List ℕ → Memory → Type 0
 Holds h m = Same (heldAt (length h) (m 0)) h m
+
+-- ALL OR NOTHING: where other words were held, the new ones are in the end; where it is cut, those or these
+abbrev pub Whole : {E : Type 0} → List ℕ → Memory → Result (Unit {0}) E → Memory → Type 0
+Whole new m r n = (old : List ℕ) → length old ≡ length new → Holds old m → Cases r (λ _. Holds new n) (λ _. Holds old n ⊎ Holds new n)

@@ -1,3 +1,5 @@
 pub mod Follows
 pub mod Halves
 pub mod Budget
+pub mod Service
+pub mod Told
