@@ -9,9 +9,11 @@ use native.Mathlib.Omega.{arith}
 use lib.Dec.{eqb, leb}
 use lib.ListN.{length, getD}
 use Rattle.std.proofs.shelf.Tests.{eqb-true, leb-true, cond-true, cond-false, cond-both, cases-bool}
+use Rattle.std.specs.declared.result.Result.{Result}
+use Rattle.std.proofs.shelf.Results.{cases-weaker}
 use Rattle.model.specs.Memory.{Memory, words, stored, Doing, done, load, store, comesTo, leaves, Halfway, here, afterLoad, afterStore, Fits, fitsDone, fitsLoad, fitsStore}
-use Rattle.device.specs.Follows.{andThen}
-use Rattle.device.specs.Halves.{heldAt, spareAt, turned, differs, copies, turning, deciding, commits, reading, Same}
+use Rattle.device.specs.Follows.{Ended, Follows, andThen}
+use Rattle.device.specs.Halves.{heldAt, spareAt, turned, differs, copies, turning, deciding, commits, reading, Same, Holds, Whole}
 use Rattle.device.specs.Budget.{unless, differingOf, differing}
 use Rattle.device.proofs.Doings.{stored-same, stored-other}
 use Rattle.device.proofs.Stores.{differing-same}
@@ -171,6 +173,23 @@ module _ (R : Memory → Type 0) (E : Unit {0} → Memory → Type 0) (old new :
             (λ t. turns)))
             (λ k n g. g),
       )
+
+-- all or nothing
+whole-go : (old new : List ℕ) (m : Memory) → length old ≡ length new → 2 * length new < words → ((i : ℕ) → getD new i 0 < 18446744073709551616) → Holds old m → Goes (λ o. Holds old o ⊎ Holds new o) (λ _ o. Holds new o) (commits new) m
+whole-go old new m long room small h =
+    commits-go (λ o. Holds old o ⊎ Holds new o) (λ _ o. Holds new o) old new m long room small
+    (λ n k. inl (subst (λ (l : ℕ). Same (heldAt l (n 0)) old n) (sym long) k))
+    (λ n k. (inr k, k))
+    (subst (λ (l : ℕ). Same (heldAt l (m 0)) old m) long h)
+
+pub whole-cut : (old new : List ℕ) (m n : Memory) → length old ≡ length new → 2 * length new < words → ((i : ℕ) → getD new i 0 < 18446744073709551616) → Holds old m → Halfway (commits new) m n → Holds old n ⊎ Holds new n
+whole-cut old new m n long room small h k = goes-half (λ o. Holds old o ⊎ Holds new o) (λ _ o. Holds new o) k (whole-go old new m long room small h)
+
+pub whole-end : (old new : List ℕ) (m n : Memory) → length old ≡ length new → 2 * length new < words → ((i : ℕ) → getD new i 0 < 18446744073709551616) → Holds old m → Ended (commits new) m tt n → Holds new n
+whole-end old new m n long room small h k = subst (Holds new) (k .left) (goes-end (λ o. Holds old o ⊎ Holds new o) (λ _ o. Holds new o) (commits new) m (whole-go old new m long room small h))
+
+pub whole : {E : Type 0} (new : List ℕ) (m n : Memory) (r : Result (Unit {0}) E) → 2 * length new < words → ((i : ℕ) → getD new i 0 < 18446744073709551616) → Follows (commits new) m r tt n → Whole new m r n
+whole new m n r room small f old long h = cases-weaker r f (λ _ k. whole-end old new m n long room small h k) (λ _ k. whole-cut old new m n long room small h k)
 
 -- READING
 pub reading-go : (R : Memory → Type 0) (E : List ℕ → Memory → Type 0) (a : ℕ) (h : List ℕ) (m : Memory) → a + length h ≤ words → Same a h m → R m → E h m → Goes R E (reading a (length h)) m

@@ -1,7 +1,7 @@
 -- The code of a change, step by step along its doing.
 -- Assumes nothing.
 use mathlib.Core.Path.{_≡_, sym, ap, _∙_}
-use mathlib.Core.Bool.{cond}
+use mathlib.Core.Bool.{Bool, false, cond}
 use mathlib.Core.List.{List, [], _∷_}
 use Prim.Native.Nat.{ℕ, _+_, _%_, _<_, _≤_}
 use native.Mathlib.Omega.{arith}
@@ -11,10 +11,11 @@ use Rattle.std.specs.declared.result.Result.{Result}
 use Rattle.std.proofs.shelf.Results.{cases-weaker}
 use Rattle.std.proofs.shelf.Lists.{drop-more, drop-all}
 use Rattle.std.proofs.shelf.Tests.{le-leb, lt-leb, eq-eqb, ne-eqb, cond-true, cond-false}
-use Rattle.model.specs.Memory.{Memory, Doing, done, load, store}
+use Rattle.model.specs.Memory.{Memory, Doing, done, load, store, comesTo, leaves}
 use Rattle.device.specs.Follows.{Ended, Follows, andThen}
 use Rattle.device.specs.Halves.{heldAt, spareAt, turned, differs, copies, deciding, commits}
-use Rattle.device.proofs.Doings.{Leads, leads-here, leads-load, leads-as, leads-part}
+use Rattle.device.specs.Service.{keeping}
+use Rattle.device.proofs.Doings.{Leads, leads-here, leads-load, leads-as, leads-part, leads-done}
 
 -- one word looked at
 module _ {p : Doing ℕ} {m : Memory} (from i n : ℕ) (ws : List ℕ) (o : Memory) (v : ℕ) (l : Leads p m (differs (from + i) n (drop i ws)) o) (lt : i < length ws) (is : v ≡ o (from + i)) where
@@ -71,3 +72,8 @@ module _ (h : List ℕ) (m : Memory) (w : ℕ) (is : w ≡ m 0) (b s t : ℕ) (i
       (cond-false _ _ _ (lt-leb n 1 gt) ∙
       ap (λ (x : ℕ). andThen (copies x h) (λ _. store 0 (turned w) (done tt))) (sym isS) ∙
       ap (λ (x : ℕ). andThen (copies s h) (λ _. store 0 x (done tt))) (sym isT))
+
+-- where nothing changed nothing is done
+pub keeps-none : (b : Bool) (h : List ℕ) (m : Memory) → b ≡ false → Ended (keeping b h) m tt m
+unfolding comesTo leaves
+keeps-none b h m e = leads-done tt (leads-as (done tt) (leads-here (keeping b h) m) (cond-false _ _ _ e))

@@ -1,13 +1,13 @@
 -- What is read, and that reading leaves all as it is.
 -- Assumes nothing.
-use mathlib.Core.Path.{_≡_, refl, sym, ap, ap₂, _∙_}
+use mathlib.Core.Path.{_≡_, refl, sym, ap, ap₂, subst, _∙_}
 use mathlib.Core.List.{List, [], _∷_}
 use Prim.Native.Nat.{ℕ, zero, suc, _+_, _<_}
 use native.Mathlib.Omega.{arith}
 use lib.ListN.{length, getD}
 use Rattle.model.specs.Memory.{Memory, done, comesTo, leaves}
 use Rattle.device.specs.Follows.{Ended}
-use Rattle.device.specs.Halves.{heldAt, reading, wakening, Same}
+use Rattle.device.specs.Halves.{heldAt, reading, wakening, Same, Holds}
 use Rattle.device.proofs.Doings.{comesTo-then, leaves-then}
 
 pub leaves-reading : (a n : ℕ) (m : Memory) → leaves (reading a n) m ≡ m
@@ -31,3 +31,9 @@ unfolding comesTo leaves
 wakened m size from w h is at long read =
     let at' : heldAt size (m 0) ≡ from = ap (heldAt size) (sym is) ∙ sym at in
     record { comes = ap (λ (a : ℕ). comesTo (reading a size) m) at' ∙ reading-is from size h m long read; left = leaves-reading (heldAt size (m 0)) size m }
+
+-- and they are those that are held
+pub wakened-held : (m : Memory) (size : ℕ) (h home : List ℕ) → length h ≡ size → Holds h m → Ended (wakening size) m home m → home ≡ h
+unfolding comesTo
+wakened-held m size h home long held e =
+    sym (e .comes) ∙ reading-is (heldAt size (m 0)) size h m long (subst (λ (k : ℕ). Same (heldAt k (m 0)) h m) long held)

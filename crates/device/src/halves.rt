@@ -1,10 +1,12 @@
 // Changes of the home words, all or nothing, in two halves of the kept memory that take turns.
+ghost use mathlib.Core.List.{List};
 ghost use mathlib.Core.Path.{_≡_};
 ghost use Prim.Native.Nat.{ℕ, _+_, _*_, _<_, _≤_};
 ghost use lib.ListN.{length, getD};
 ghost use Rattle.device.specs.Budget.{Budget};
 ghost use Rattle.device.specs.Follows.{Ended, Follows};
-ghost use Rattle.device.specs.Halves.{heldAt, spareAt, turned, differs, copies, commits, wakening};
+ghost use Rattle.device.specs.Halves.{heldAt, spareAt, turned, differs, copies, commits, wakening, Whole, Holds};
+ghost use Rattle.device.specs.Service.{keeping};
 use crate::kept::Dark;
 use crate::kept::Kept;
 
@@ -69,6 +71,7 @@ fn copy<K: Kept>(words: &mut K, from: usize, home: &[u64]) -> Result<(), Dark>
 pub fn commit<K: Kept>(words: &mut K, home: &[u64]) -> Result<(), Dark>
     requires { ⌜ 2 * length (now home) < 262144 ⌝ }
     ensures follows { λ r. ⌜ Follows (commits (now (home .entry))) (word (now (words .entry))) r (tt {0}) (word (now (words .exit))) ⌝ }
+    ensures whole { λ r. ⌜ Whole (now (home .entry)) (word (now (words .entry))) r (word (now (words .exit))) ⌝ }
     ensures budget { λ _. ⌜ Budget (now (home .entry)) (word (now (words .entry))) ⌝ }
 {
     let at = locate(words.load(0), home.len());
@@ -77,6 +80,17 @@ pub fn commit<K: Kept>(words: &mut K, home: &[u64]) -> Result<(), Dark>
     }
     copy(words, at.spare, home)?;
     words.store(0, at.turned)
+}
+
+// Makes these the home words if they may have changed; if not, nothing is looked at.
+pub fn keep<K: Kept>(words: &mut K, home: &[u64], changed: bool) -> Result<(), Dark>
+    requires { ⌜ 2 * length (now home) < 262144 ⌝ }
+    ensures { λ r. ⌜ Follows (keeping changed (now (home .entry))) (word (now (words .entry))) r (tt {0}) (word (now (words .exit))) ⌝ }
+{
+    if changed {
+        return commit(words, home);
+    }
+    Ok(())
 }
 
 // Reads as many words from there as there is room for.
@@ -92,7 +106,8 @@ fn read<K: Kept>(words: &K, from: usize, home: &mut [u64])
 // Reads the home words; it only loads, and any words are some home.
 pub fn wake<K: Kept>(words: &K, home: &mut [u64])
     requires { ⌜ 2 * length (now home) < 262144 ⌝ }
-    ensures { λ _. ⌜ Ended (wakening (length (now (home .entry)))) (word (now (words .entry))) (now (home .exit)) (word (now (words .entry))) ⌝ }
+    ensures follows { λ _. ⌜ Ended (wakening (length (now (home .entry)))) (word (now (words .entry))) (now (home .exit)) (word (now (words .entry))) ⌝ }
+    ensures whole { λ _. ⌜ ((h : List ℕ) → length h ≡ length (now (home .entry)) → Holds h (word (now (words .entry))) → now (home .exit) ≡ h) ⌝ }
 {
     let at = locate(words.load(0), home.len());
     read(words, at.held, home);
