@@ -5,3 +5,4 @@ pub mod Stores
 pub mod Goes
 pub mod Served
 pub mod Telling
+pub mod Counted

@@ -3,3 +3,4 @@ pub mod Halves
 pub mod Budget
 pub mod Service
 pub mod Told
+pub mod Counter

@@ -1,4 +1,5 @@
 // The kept memory and all-or-nothing changes of it.
+pub mod counter;
 pub mod fused;
 pub mod halves;
 pub mod kept;
