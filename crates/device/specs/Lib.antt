@@ -4,3 +4,4 @@ pub mod Budget
 pub mod Service
 pub mod Told
 pub mod Counter
+pub mod Bytes
