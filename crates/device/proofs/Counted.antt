@@ -34,9 +34,9 @@ serves =
       first = record { same = refl; sum-fits = omega arith; count-fits = omega arith };
       blank = refl;
       answers = λ c x s a.
-        let at : Stands s s = record { same = refl; sum-fits = a .sum-fits; count-fits = a .count-fits } in
-        let f = fits c s at in
-        (says c s .mind, (ap (λ (y : State). says c y .reply) (a .same), refl), record { same = ap (λ (y : State). says c y .mind) (a .same); sum-fits = f .sum-fits; count-fits = f .count-fits });
+          let at : Stands s s = record { same = refl; sum-fits = a .sum-fits; count-fits = a .count-fits } in
+          let f = fits c s at in
+          (says c s .mind, (ap (λ (y : State). says c y .reply) (a .same), refl), record { same = ap (λ (y : State). says c y .mind) (a .same); sum-fits = f .sum-fits; count-fits = f .count-fits });
       still = λ c x s a e. still c x e;
       wakes = λ x s a. record { same = ap forgets (a .same); sum-fits = a .sum-fits; count-fits = a .count-fits };
       again = λ x s a. refl;

@@ -150,7 +150,7 @@ module _ (new : List ℕ) (m : Memory) where
       let a = stores-then f (differs H 0 new) (deciding (m 0) new) m in
       let z = differs-stores f H 0 new m in
       let e : storesOf f (deciding (m 0) new (comesTo (differs H 0 new) m)) (leaves (differs H 0 new) m) ≡ storesOf f rest m =
-          ap (λ (n : Memory). storesOf f (deciding (m 0) new (comesTo (differs H 0 new) m)) n) (differs-leaves H 0 new m) ∙ ap (λ (k : ℕ). storesOf f (deciding (m 0) new k) m) found in
+      ap (λ (n : Memory). storesOf f (deciding (m 0) new (comesTo (differs H 0 new) m)) n) (differs-leaves H 0 new m) ∙ ap (λ (k : ℕ). storesOf f (deciding (m 0) new k) m) found in
       omega (arith, a, z, e)
 
   rest-leaves : leaves (commits new) m ≡ leaves rest m

@@ -28,7 +28,7 @@ pub enum OpenError {
     Read(io::Error),
 }
 
-impl fmt::Display for OpenError as OpenErrorDisplay {
+pub impl fmt::Display for OpenError as OpenErrorDisplay {
     fn fmt<W: fmt::Write>(&self, f: &mut fmt::Formatter<W>) -> fmt::Result {
         match self {
             OpenError::Length(n) => write!(
@@ -52,10 +52,7 @@ impl fmt::Display for OpenError as OpenErrorDisplay {
 }
 
 // Opens the file and reads its words into the mirror. A file of another length is refused; where there is none it is made, all 0.
-pub fn open<'a>(
-    rt: &LibcRuntime,
-    mirror: &'a mut [u64; 262144],
-) -> Result<Filed<'a>, OpenError> {
+pub fn open<'a>(rt: &LibcRuntime, mirror: &'a mut [u64; 262144]) -> Result<Filed<'a>, OpenError> {
     let mut file = open_or_make(rt)?;
     let long = match file.metadata() {
         Ok(about) => about.len(),
