@@ -63,7 +63,9 @@ impl Counter {
 
     // Answers, and keeps what changed; or is cut in that.
     pub fn answer<K: Kept>(&mut self, words: &mut K, ask: Ask) -> Result<u64, Dark>
-        ensures { λ r. ⌜ FollowsTo (code .does ask (mindOf (now (self .entry) .home) (now (self .entry) .asked))) (word (now (words .entry))) r (λ n. record { reply = n; mind = mindOf (now (self .exit) .home) (now (self .exit) .asked) }) (word (now (words .exit))) ⌝ }
+        ensures follows { λ r. ⌜ FollowsTo (code .does ask (mindOf (now (self .entry) .home) (now (self .entry) .asked))) (word (now (words .entry))) r (λ n. record { reply = n; mind = mindOf (now (self .exit) .home) (now (self .exit) .asked) }) (word (now (words .exit))) ⌝ }
+        ensures runs { λ r. ⌜ GoesOn code ask (mindOf (now (self .entry) .home) (now (self .entry) .asked)) (word (now (words .entry))) r (λ n. record { reply = n; mind = mindOf (now (self .exit) .home) (now (self .exit) .asked) }) (word (now (words .exit))) ⌝ }
+        ensures tells { λ r. ⌜ DoesSo meant code Tells Awake ask (mindOf (now (self .entry) .home) (now (self .entry) .asked)) (word (now (words .entry))) r (λ n. record { reply = n; mind = mindOf (now (self .exit) .home) (now (self .exit) .asked) }) (word (now (words .exit))) ⌝ }
     {
         let acted = self.act(ask);
         keep(words, &self.home, acted.changed)?;
