@@ -67,6 +67,41 @@ fn copy<K: Kept>(words: &mut K, from: usize, home: &[u64]) -> Result<(), Dark>
     Ok(())
 }
 
+// Reads as many words from there as there is room for.
+fn read<K: Kept>(words: &K, from: usize, home: &mut [u64])
+    requires { ⌜ from + length (now home) ≤ 262144 ⌝ }
+    ensures { λ _. ⌜ ((j : ℕ) → j < length (now (home .entry)) → getD (now (home .exit)) j 0 ≡ word (now (words .entry)) (from + j)) ⌝ }
+{
+    for i in 0..home.len() {
+        home[i] = words.load(from + i);
+    }
+}
+
+impl Places {
+    // Stores in place, in the half that holds.
+    fn change_held<K: Kept>(self, words: &mut K, home: &[u64]) -> Result<(), Dark>
+        requires { ⌜ self .held + length (now home) ≤ 262144 ⌝ }
+        ensures { λ r. ⌜ Follows (copies (self .held) (now (home .entry))) (word (now (words .entry))) r (tt {0}) (word (now (words .exit))) ⌝ }
+    {
+        copy(words, self.held, home)
+    }
+
+    // Stores in the other half, which nothing looks at yet.
+    fn fill_spare<K: Kept>(self, words: &mut K, home: &[u64]) -> Result<(), Dark>
+        requires { ⌜ self .spare + length (now home) ≤ 262144 ⌝ }
+        ensures { λ r. ⌜ Follows (copies (self .spare) (now (home .entry))) (word (now (words .entry))) r (tt {0}) (word (now (words .exit))) ⌝ }
+    {
+        copy(words, self.spare, home)
+    }
+
+    fn read_held<K: Kept>(self, words: &K, home: &mut [u64])
+        requires { ⌜ self .held + length (now home) ≤ 262144 ⌝ }
+        ensures { λ _. ⌜ ((j : ℕ) → j < length (now (home .entry)) → getD (now (home .exit)) j 0 ≡ word (now (words .entry)) (self .held + j)) ⌝ }
+    {
+        read(words, self.held, home);
+    }
+}
+
 // Makes these the home words: all of them, or none where the power fails before the end.
 pub fn commit<K: Kept>(words: &mut K, home: &[u64]) -> Result<(), Dark>
     requires { ⌜ 2 * length (now home) < 262144 ⌝ }
@@ -76,9 +111,9 @@ pub fn commit<K: Kept>(words: &mut K, home: &[u64]) -> Result<(), Dark>
 {
     let at = locate(words.load(0), home.len());
     if differ(words, at.held, home) <= 1 {
-        return copy(words, at.held, home);
+        return at.change_held(words, home);
     }
-    copy(words, at.spare, home)?;
+    at.fill_spare(words, home)?;
     words.store(0, at.turned)
 }
 
@@ -93,16 +128,6 @@ pub fn keep<K: Kept>(words: &mut K, home: &[u64], changed: bool) -> Result<(), D
     Ok(())
 }
 
-// Reads as many words from there as there is room for.
-fn read<K: Kept>(words: &K, from: usize, home: &mut [u64])
-    requires { ⌜ from + length (now home) ≤ 262144 ⌝ }
-    ensures { λ _. ⌜ ((j : ℕ) → j < length (now (home .entry)) → getD (now (home .exit)) j 0 ≡ word (now (words .entry)) (from + j)) ⌝ }
-{
-    for i in 0..home.len() {
-        home[i] = words.load(from + i);
-    }
-}
-
 // Reads the home words; it only loads, and any words are some home.
 pub fn wake<K: Kept>(words: &K, home: &mut [u64])
     requires { ⌜ 2 * length (now home) < 262144 ⌝ }
@@ -110,5 +135,5 @@ pub fn wake<K: Kept>(words: &K, home: &mut [u64])
     ensures whole { λ _. ⌜ ((h : List ℕ) → length h ≡ length (now (home .entry)) → Holds h (word (now (words .entry))) → now (home .exit) ≡ h) ⌝ }
 {
     let at = locate(words.load(0), home.len());
-    read(words, at.held, home);
+    at.read_held(words, home);
 }

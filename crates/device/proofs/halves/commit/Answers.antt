@@ -17,21 +17,21 @@ pub returns-then-differ-le1 : need.returns-then-differ-le1
 returns-then-differ-le1 g c =
     let h = c .args .home .now in
     let m : Memory = g .K·Kept .word (c .args .words .now) in
-    let n : Memory = g .K·Kept .word (c .copy .last .words) in
-    let f : Follows (commits h) m (c .copy .result) tt n =
-    in-place h m (c .load .result) (c .load .ensures) (c .locate-at .result .held) (c .locate-at .result .spare) (c .locate-at .result .turned) (c .locate-at .ensures .holds) (c .locate-at .ensures .other) (c .locate-at .ensures .turns) (c .differ .result) (c .differ .ensures) n (c .copy .result) (c .if-differ-le1 .taken) (c .copy .ensures) in
-    record { follows = f; whole = whole h m n (c .copy .result) (c .pre) (λ i. omega (arith, c .typed .home i)) f; budget = budget h m }
+    let n : Memory = g .K·Kept .word (c .change-held .last .words) in
+    let f : Follows (commits h) m (c .change-held .result) tt n =
+    in-place h m (c .load .result) (c .load .ensures) (c .locate-at .result .held) (c .locate-at .result .spare) (c .locate-at .result .turned) (c .locate-at .ensures .holds) (c .locate-at .ensures .other) (c .locate-at .ensures .turns) (c .differ .result) (c .differ .ensures) n (c .change-held .result) (c .if-differ-le1 .taken) (c .change-held .ensures) in
+    record { follows = f; whole = whole h m n (c .change-held .result) (c .pre) (λ i. omega (arith, c .typed .home i)) f; budget = budget h m }
 
-pub returns-in-Break-copy : need.returns-in-Break-copy
-returns-in-Break-copy g c =
+pub returns-in-Break-fill-spare : need.returns-in-Break-fill-spare
+returns-in-Break-fill-spare g c =
     let h = c .args .home .now in
     let m : Memory = g .K·Kept .word (c .args .words .now) in
-    let n : Memory = g .K·Kept .word (c .copy-2 .last .words) in
+    let n : Memory = g .K·Kept .word (c .fill-spare .last .words) in
     let p = err-from-errBy (c .from-residual .result) (c .from-residual .ensures .1) in
     let k : Halfway (commits h) m n =
     leads-part-cut (λ _. store 0 (c .locate-at .result .turned) (done tt))
     (turns h m (c .load .result) (c .load .ensures) (c .locate-at .result .held) (c .locate-at .result .spare) (c .locate-at .result .turned) (c .locate-at .ensures .holds) (c .locate-at .ensures .other) (c .locate-at .ensures .turns) (c .differ .result) (c .differ .ensures) (c .if-differ-le1 .left))
-    (c .in-Break-copy .ensures tt) in
+    (c .in-Break-fill-spare .ensures tt) in
     let f : Follows (commits h) m (c .from-residual .result) tt n = rw (p .1) k in
     record { follows = f; whole = whole h m n (c .from-residual .result) (c .pre) (λ i. omega (arith, c .typed .home i)) f; budget = budget h m }
 
@@ -41,9 +41,9 @@ returns g c =
     let m : Memory = g .K·Kept .word (c .args .words .now) in
     let n : Memory = g .K·Kept .word (c .store .last .self) in
     let f : Follows (commits h) m (c .store .result) tt n =
-    follows-store 0 (c .locate-at .result .turned) tt (g .K·Kept .word (c .copy-2 .last .words)) n (c .store .result)
+    follows-store 0 (c .locate-at .result .turned) tt (g .K·Kept .word (c .fill-spare .last .words)) n (c .store .result)
     (leads-part (λ _. store 0 (c .locate-at .result .turned) (done tt))
     (turns h m (c .load .result) (c .load .ensures) (c .locate-at .result .held) (c .locate-at .result .spare) (c .locate-at .result .turned) (c .locate-at .ensures .holds) (c .locate-at .ensures .other) (c .locate-at .ensures .turns) (c .differ .result) (c .differ .ensures) (c .if-differ-le1 .left))
-    (c .in-Continue-copy .ensures tt))
+    (c .in-Continue-fill-spare .ensures tt))
     (c .store .ensures) in
     record { follows = f; whole = whole h m n (c .store .result) (c .pre) (λ i. omega (arith, c .typed .home i)) f; budget = budget h m }

@@ -10,6 +10,6 @@ pub returns : need.returns
 returns g c =
     let size = length (c .args .home .now) in
     let m = g .K·Kept .word (c .args .words .now) in
-    let long : length (c .read .last .home) ≡ size = omega arith in
-    let e : Ended (wakening size) m (c .read .last .home) m = wakened m size (c .locate-at .result .held) (c .load .result) (c .read .last .home) (c .load .ensures) (c .locate-at .ensures .holds) long (λ j lt. sym (c .read .ensures j (omega arith))) in
-    record { follows = e; whole = λ h l held. wakened-held m size h (c .read .last .home) l held e }
+    let long : length (c .read-held .last .home) ≡ size = omega arith in
+    let e : Ended (wakening size) m (c .read-held .last .home) m = wakened m size (c .locate-at .result .held) (c .load .result) (c .read-held .last .home) (c .load .ensures) (c .locate-at .ensures .holds) long (λ j lt. sym (c .read-held .ensures j (omega arith))) in
+    record { follows = e; whole = λ h l held. wakened-held m size h (c .read-held .last .home) l held e }
