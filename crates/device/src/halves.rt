@@ -80,7 +80,7 @@ fn read<K: Kept>(words: &K, from: usize, home: &mut [u64])
 impl Places {
     // Stores in place, in the half that holds.
     fn change_held<K: Kept>(self, words: &mut K, home: &[u64]) -> Result<(), Dark>
-        requires { ⌜ self .held + length (now home) ≤ 262144 ⌝ }
+        requires { ⌜ self .held + length (now home) ≤ 262144 ⌝ ∗ ⌜ self .spare + length (now home) ≤ 262144 ⌝ }
         ensures { λ r. ⌜ Follows (copies (self .held) (now (home .entry))) (word (now (words .entry))) r (tt {0}) (word (now (words .exit))) ⌝ }
     {
         copy(words, self.held, home)
@@ -88,14 +88,14 @@ impl Places {
 
     // Stores in the other half, which nothing looks at yet.
     fn fill_spare<K: Kept>(self, words: &mut K, home: &[u64]) -> Result<(), Dark>
-        requires { ⌜ self .spare + length (now home) ≤ 262144 ⌝ }
+        requires { ⌜ self .held + length (now home) ≤ 262144 ⌝ ∗ ⌜ self .spare + length (now home) ≤ 262144 ⌝ }
         ensures { λ r. ⌜ Follows (copies (self .spare) (now (home .entry))) (word (now (words .entry))) r (tt {0}) (word (now (words .exit))) ⌝ }
     {
         copy(words, self.spare, home)
     }
 
     fn read_held<K: Kept>(self, words: &K, home: &mut [u64])
-        requires { ⌜ self .held + length (now home) ≤ 262144 ⌝ }
+        requires { ⌜ self .held + length (now home) ≤ 262144 ⌝ ∗ ⌜ self .spare + length (now home) ≤ 262144 ⌝ }
         ensures { λ _. ⌜ ((j : ℕ) → j < length (now (home .entry)) → getD (now (home .exit)) j 0 ≡ word (now (words .entry)) (self .held + j)) ⌝ }
     {
         read(words, self.held, home);
