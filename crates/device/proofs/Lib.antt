@@ -3,6 +3,7 @@ pub mod Steps
 pub mod Wakened
 pub mod Stores
 pub mod Goes
+pub mod Calls
 pub mod Served
 pub mod Telling
 pub mod Counted

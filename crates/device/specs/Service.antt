@@ -1,12 +1,13 @@
 -- A SERVICE: what answers calls, told by pure functions, with its home words kept in two halves. Its code, and what makes that code right.
 -- Assumes nothing.
 use mathlib.Core.Path.{_≡_}
-use mathlib.Core.Bool.{Bool, false, cond}
+use mathlib.Core.Bool.{Bool, true, false, cond}
 use mathlib.Core.List.{List}
-use Prim.Native.Nat.{ℕ, _*_, _<_}
+use Prim.Native.Nat.{ℕ, _+_, _*_, _<_, _≤_}
 use lib.ListN.{length, getD, replicate}
 use Rattle.model.specs.Memory.{Memory, words, Doing, done, Code, Meant}
 use Rattle.device.specs.Follows.{andThen}
+use Rattle.device.specs.Budget.{storesIn, storesAt, changing, stale}
 use Rattle.device.specs.Halves.{commits, wakening, Holds}
 
 abbrev pub Said : Type 0 → Type 0 → Type 0
@@ -67,3 +68,11 @@ pub record Tells {C R X : Type 0} (j : Meant C R) (v : Service C R X) (Stands : 
 pub record Awake {C R X : Type 0} (j : Meant C R) (v : Service C R X) (Stands : X → j .State → Type 0) (x : X) (m : Memory) (s : j .State) : Type 0 where
   pub held : Holds (v .homeOf x) m
   pub stands : Stands x s
+
+-- THE BUDGET of a call: none that shows or changes nothing stores, one that changes one word stores it, and none stores a word twice
+pub record CallBudget {C R X : Type 0} (v : Service C R X) (c : C) (x : X) (m : Memory) : Type 0 where
+  pub shows : v .keeps c x ≡ false → storesIn (answering v c x) m ≡ 0
+  pub none : changing (v .homeOf (v .says c x .mind)) m ≡ 0 → storesIn (answering v c x) m ≡ 0
+  pub one : v .keeps c x ≡ true → changing (v .homeOf (v .says c x .mind)) m ≡ 1 → storesIn (answering v c x) m ≡ 1
+  pub more : storesIn (answering v c x) m ≤ stale (v .homeOf (v .says c x .mind)) m + 1
+  pub once : (b : ℕ) → storesAt b (answering v c x) m ≤ 1

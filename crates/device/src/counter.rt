@@ -1,9 +1,11 @@
 // The smallest service: how one is put together, and what the tests run.
 ghost use mathlib.Core.Path.{_≡_};
+ghost use Rattle.model.specs.Memory.{asleep, awake};
 ghost use Rattle.model.specs.Right.{RightBy, RunsRight, RunsFit};
 ghost use Rattle.device.specs.Counter.{meant, code, service, keeps, says, mindOf, Tells, Awake};
 ghost use Rattle.device.specs.Follows.{Ended, FollowsTo};
-ghost use Rattle.device.specs.Told.{GoesOn, DoesSo};
+ghost use Rattle.device.specs.Service.{CallBudget};
+ghost use Rattle.device.specs.Told.{GoesOn, DoesSo, Runs};
 use crate::halves::keep;
 use crate::halves::wake;
 use crate::kept::Dark;
@@ -31,7 +33,8 @@ struct Acted {
 impl Counter {
     // Wakes from the kept words.
     pub fn wake<K: Kept>(words: &K) -> Self
-        ensures { λ r. ⌜ Ended (code .wakes) (word (now (words .entry))) (mindOf (r .home) (r .asked)) (word (now (words .entry))) ⌝ }
+        ensures follows { λ r. ⌜ Ended (code .wakes) (word (now (words .entry))) (mindOf (r .home) (r .asked)) (word (now (words .entry))) ⌝ }
+        ensures runs { λ r. ⌜ (Runs code (asleep (word (now (words .entry)))) → Runs code (awake (mindOf (r .home) (r .asked)) (word (now (words .entry))))) ⌝ }
     {
         let mut home = [0, 0];
         wake(words, &mut home);
@@ -66,6 +69,7 @@ impl Counter {
         ensures follows { λ r. ⌜ FollowsTo (code .does ask (mindOf (now (self .entry) .home) (now (self .entry) .asked))) (word (now (words .entry))) r (λ n. record { reply = n; mind = mindOf (now (self .exit) .home) (now (self .exit) .asked) }) (word (now (words .exit))) ⌝ }
         ensures runs { λ r. ⌜ GoesOn code ask (mindOf (now (self .entry) .home) (now (self .entry) .asked)) (word (now (words .entry))) r (λ n. record { reply = n; mind = mindOf (now (self .exit) .home) (now (self .exit) .asked) }) (word (now (words .exit))) ⌝ }
         ensures tells { λ r. ⌜ DoesSo meant code Tells Awake ask (mindOf (now (self .entry) .home) (now (self .entry) .asked)) (word (now (words .entry))) r (λ n. record { reply = n; mind = mindOf (now (self .exit) .home) (now (self .exit) .asked) }) (word (now (words .exit))) ⌝ }
+        ensures budget { λ _. ⌜ CallBudget service ask (mindOf (now (self .entry) .home) (now (self .entry) .asked)) (word (now (words .entry))) ⌝ }
     {
         let acted = self.act(ask);
         keep(words, &self.home, acted.changed)?;
