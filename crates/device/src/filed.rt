@@ -6,6 +6,7 @@ ghost use lib.ListN.{getD};
 use crate::bytes::encode;
 use crate::kept::Dark;
 use crate::kept::Kept;
+use crate::kept::WORDS;
 use std::fs::File;
 use std::io;
 use std::io::Seek;
@@ -45,7 +46,7 @@ pub impl Kept for Filed<'_> as FiledKept {
 
 impl<'a> Filed<'a> {
     // A file, with its words read into the mirror.
-    pub(crate) fn of(file: File, mirror: &'a mut [u64; 262144]) -> Self
+    pub(crate) fn of(file: File, mirror: &'a mut [u64; WORDS]) -> Self
         ensures { λ r. ⌜ now (r .mirror) ≡ now (mirror .entry) ⌝ }
     {
         Filed { file, mirror }

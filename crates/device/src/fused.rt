@@ -6,6 +6,7 @@ ghost use lib.ListN.{length, getD, set};
 ghost use Rattle.std.specs.Results.{Cases};
 use crate::kept::Dark;
 use crate::kept::Kept;
+use crate::kept::WORDS;
 
 #[derive(Drop)]
 pub struct Fused<'a> {
@@ -28,7 +29,7 @@ pub impl Kept for Fused<'_> as FusedKept {
 
 impl<'a> Fused<'a> {
     // Dark after so many stores.
-    pub fn new(words: &'a mut [u64; 262144], stores: u64) -> Self
+    pub fn new(words: &'a mut [u64; WORDS], stores: u64) -> Self
         ensures { λ r. ⌜ now (r .words) ≡ now (words .entry) ⌝ ∗ ⌜ r .left ≡ stores ⌝ }
     {
         Fused {

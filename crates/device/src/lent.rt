@@ -4,6 +4,7 @@ ghost use denote.Ref.{now};
 ghost use lib.ListN.{length, getD};
 use crate::kept::Dark;
 use crate::kept::Kept;
+use crate::kept::WORDS;
 
 #[derive(Drop)]
 pub struct Lent<'a> {
@@ -25,7 +26,7 @@ pub impl Kept for Lent<'_> as LentKept {
 }
 
 impl<'a> Lent<'a> {
-    pub fn new(words: &'a mut [u64; 262144]) -> Self
+    pub fn new(words: &'a mut [u64; WORDS]) -> Self
         ensures { λ r. ⌜ now (r .words) ≡ now (words .entry) ⌝ }
     {
         Lent { words }

@@ -3,6 +3,7 @@ ghost use mathlib.Core.Path.{_≡_};
 ghost use lib.ListN.{length};
 use crate::bytes::decode;
 use crate::filed::Filed;
+use crate::kept::WORDS;
 use std::fmt;
 use std::fs;
 use std::fs::File;
@@ -52,7 +53,7 @@ pub impl fmt::Display for OpenError as OpenErrorDisplay {
 }
 
 // Opens the file and reads its words into the mirror. A file of another length is refused; where there is none it is made, all 0.
-pub fn open<'a>(rt: &LibcRuntime, mirror: &'a mut [u64; 262144]) -> Result<Filed<'a>, OpenError> {
+pub fn open<'a>(rt: &LibcRuntime, mirror: &'a mut [u64; WORDS]) -> Result<Filed<'a>, OpenError> {
     let mut file = open_or_make(rt)?;
     let long = match file.metadata() {
         Ok(about) => about.len(),
@@ -102,7 +103,7 @@ fn make(rt: &LibcRuntime) -> io::Result<()> {
     File::open(rt, ".")?.sync_all()
 }
 
-fn read_all(file: &mut File, mirror: &mut [u64; 262144]) -> io::Result<()> {
+fn read_all(file: &mut File, mirror: &mut [u64; WORDS]) -> io::Result<()> {
     for k in 0..512 {
         read_part(file, &mut mirror[512 * k..512 * k + 512])?;
     }
