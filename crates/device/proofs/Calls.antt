@@ -1,17 +1,16 @@
 -- How often a call of a service stores.
 -- Assumes nothing.
-use mathlib.Core.Path.{_≡_, refl, sym, ap, _∙_}
-use mathlib.Core.Logic.{_⊎_, inl, inr}
-use mathlib.Core.Bool.{Bool, true, false, cond}
+use mathlib.Core.Path.{_≡_, ap, _∙_}
+use mathlib.Core.Logic.{inl, inr}
+use mathlib.Core.Bool.{Bool, true, false}
 use mathlib.Core.List.{List}
-use Prim.Native.Nat.{ℕ, _+_, _<_, _≤_}
+use Prim.Native.Nat.{ℕ, _+_, _≤_}
 use native.Mathlib.Omega.{arith}
 use lib.Dec.{eqb, leb}
 use Rattle.std.proofs.shelf.Tests.{leb-true, leb-false, cond-true, cond-false, cases-bool}
 use Rattle.model.specs.Memory.{Memory, Doing, done}
-use Rattle.device.specs.Follows.{andThen}
 use Rattle.device.specs.Halves.{commits}
-use Rattle.device.specs.Budget.{storesOf, storesIn, changing, stale, Budget}
+use Rattle.device.specs.Budget.{storesOf, storesIn, changing, stale}
 use Rattle.device.specs.Service.{Service, keeping, answering, CallBudget}
 use Rattle.device.proofs.Stores.{stores-then, budget}
 

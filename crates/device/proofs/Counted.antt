@@ -1,16 +1,16 @@
 -- The counter serves what is meant.
 -- Assumes nothing.
-use mathlib.Core.Path.{_≡_, refl, sym, ap, subst, _∙_}
-use mathlib.Core.Bool.{Bool, true, false}
+use mathlib.Core.Path.{_≡_, refl, sym, ap, subst}
+use mathlib.Core.Bool.{false}
 use mathlib.Core.List.{List, [], _∷_}
-use Prim.Native.Nat.{ℕ, zero, suc, _+_, _%_, _<_}
+use Prim.Native.Nat.{ℕ, zero, suc, _<_}
 use native.Mathlib.Omega.{arith}
 use lib.ListN.{length, getD}
 use Rattle.model.specs.Right.{Darkens}
 use Rattle.device.specs.declared.counter.Ask.{Ask}
 use Rattle.device.specs.declared.counter.Ask.the-variants.{Add, Show}
-use Rattle.device.specs.Service.{Said, Serves}
-use Rattle.device.specs.Counter.{State, wraps, forgets, says, meant, keeps, mindOf, service, Stands}
+use Rattle.device.specs.Service.{Serves}
+use Rattle.device.specs.Counter.{State, forgets, says, meant, keeps, mindOf, service, Stands}
 
 small : (s : State) → s .sum < 18446744073709551616 → s .count < 18446744073709551616 → (i : ℕ) → getD (s .sum ∷ s .count ∷ []) i 0 < 18446744073709551616
 small s a b zero = a

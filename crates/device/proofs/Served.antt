@@ -2,16 +2,16 @@
 -- Assumes nothing.
 use mathlib.Core.Path.{_≡_, refl, sym, ap, subst, _∙_}
 use mathlib.Core.Logic.{_⊎_, inl, inr}
-use mathlib.Core.Bool.{Bool, true, false, cond}
-use mathlib.Core.List.{List, [], _∷_}
+use mathlib.Core.Bool.{Bool, true, false}
+use mathlib.Core.List.{List}
 use Prim.Native.Nat.{ℕ, zero, suc, _+_, _*_, _<_, _≤_}
 use native.Mathlib.Omega.{arith}
 use lib.ListN.{length, getD}
-use Rattle.model.specs.Memory.{Memory, blankMemory, words, Doing, done, comesTo, leaves, Halfway, Fits, Code, Meant, Happens, Stand, asleep, awake, Run}
+use Rattle.model.specs.Memory.{Memory, blankMemory, words, done, Code, Meant, Happens, Stand, asleep, awake, Run}
 use Rattle.model.specs.Right.{RightBy, RunsRight, RunsFit, Darkens}
 use Rattle.model.proofs.Rights.{runs-right}
 use Rattle.device.specs.Follows.{andThen}
-use Rattle.device.specs.Halves.{heldAt, commits, wakening, reading, Same, Holds}
+use Rattle.device.specs.Halves.{heldAt, reading, Same, Holds}
 use Rattle.device.specs.Service.{Said, Service, keeping, waking, answering, codeOf, zeros, Serves, Tells, Awake}
 use Rattle.device.proofs.Goes.{Goes, goes-fits, goes-half, goes-end, goes-then, commits-go, reading-go, parts}
 

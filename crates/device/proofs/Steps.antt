@@ -2,8 +2,8 @@
 -- Assumes nothing.
 use mathlib.Core.Path.{_≡_, sym, ap, _∙_}
 use mathlib.Core.Bool.{Bool, false, cond}
-use mathlib.Core.List.{List, [], _∷_}
-use Prim.Native.Nat.{ℕ, _+_, _%_, _<_, _≤_}
+use mathlib.Core.List.{List, _∷_}
+use Prim.Native.Nat.{ℕ, _+_, _<_, _≤_}
 use native.Mathlib.Omega.{arith}
 use lib.Dec.{eqb}
 use lib.ListN.{length, getD, drop}
@@ -11,7 +11,7 @@ use Rattle.std.specs.declared.result.Result.{Result}
 use Rattle.std.proofs.shelf.Results.{cases-weaker}
 use Rattle.std.proofs.shelf.Lists.{drop-more, drop-all}
 use Rattle.std.proofs.shelf.Tests.{le-leb, lt-leb, eq-eqb, ne-eqb, cond-true, cond-false}
-use Rattle.model.specs.Memory.{Memory, Doing, done, load, store, comesTo, leaves}
+use Rattle.model.specs.Memory.{Memory, Doing, done, store, comesTo, leaves}
 use Rattle.device.specs.Follows.{Ended, Follows, andThen}
 use Rattle.device.specs.Halves.{heldAt, spareAt, turned, differs, copies, deciding, commits}
 use Rattle.device.specs.Service.{keeping}

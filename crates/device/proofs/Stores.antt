@@ -1,18 +1,18 @@
 -- How often a change stores.
 -- Assumes nothing.
-use mathlib.Core.Path.{_≡_, refl, sym, ap, subst, _∙_}
-use mathlib.Core.Logic.{_⊎_, inl, inr}
+use mathlib.Core.Path.{_≡_, refl, sym, ap, _∙_}
+use mathlib.Core.Logic.{inl, inr}
 use mathlib.Core.Bool.{Bool, true, false, cond}
 use mathlib.Core.List.{List, [], _∷_}
 use Prim.Native.Nat.{ℕ, _+_, _%_, _<_, _≤_}
 use native.Mathlib.Omega.{arith}
 use lib.Dec.{eqb, leb}
 use lib.ListN.{length}
-use Rattle.std.proofs.shelf.Tests.{eqb-true, eqb-false, leb-true, leb-false, eq-eqb, ne-eqb, le-leb, lt-leb, cond-true, cond-false, cases-bool, cases-eq}
+use Rattle.std.proofs.shelf.Tests.{eqb-true, eqb-false, leb-true, leb-false, ne-eqb, le-leb, lt-leb, cond-true, cond-false, cases-bool, cases-eq}
 use Rattle.model.specs.Memory.{Memory, stored, Doing, done, load, store, comesTo, leaves}
 use Rattle.device.specs.Follows.{andThen}
 use Rattle.device.specs.Halves.{heldAt, spareAt, turned, differs, copies, turning, deciding, commits}
-use Rattle.device.specs.Budget.{tally, unless, storesOf, differingOf, differing, changing, stale, Budget}
+use Rattle.device.specs.Budget.{tally, unless, storesOf, differingOf, differing, changing, Budget}
 use Rattle.device.proofs.Doings.{stored-same, stored-other, leaves-then}
 
 pub stores-then : {A B : Type 0} (f : ℕ → Bool) (p : Doing A) (k : A → Doing B) (m : Memory) → storesOf f (andThen p k) m ≡ storesOf f p m + storesOf f (k (comesTo p m)) (leaves p m)

@@ -1,16 +1,16 @@
 -- From what code over a device followed to what that is to a service, to the run so far, and to what is meant.
 -- Assumes nothing.
-use mathlib.Core.Path.{_≡_, refl, sym, ap, subst, subst₂, _∙_}
+use mathlib.Core.Path.{_≡_, ap, subst₂, _∙_}
 use mathlib.Core.Bool.{Bool}
 use mathlib.Core.List.{List, _∷_}
 use Prim.Native.Nat.{ℕ}
 use Rattle.std.specs.declared.result.Result.{Result}
 use Rattle.std.proofs.shelf.Results.{cases-weaker}
-use Rattle.model.specs.Memory.{Memory, Doing, done, Code, Meant, Happens, answered, Run, asleep, awake, Halfway}
+use Rattle.model.specs.Memory.{Memory, done, Code, Meant, answered, Run, asleep, awake, Halfway}
 use Rattle.model.specs.Right.{RightBy}
-use Rattle.device.specs.Follows.{Ended, Follows, FollowsTo, andThen}
+use Rattle.device.specs.Follows.{Ended, FollowsTo, andThen}
 use Rattle.device.specs.Halves.{wakening}
-use Rattle.device.specs.Service.{Said, Service, keeping, waking, answering, codeOf}
+use Rattle.device.specs.Service.{Said, Service, keeping, waking, answering}
 use Rattle.device.specs.Told.{GoesOn, DoesSo, Runs}
 use Rattle.device.proofs.Doings.{Leads, leads-here, leads-as, leads-part, leads-part-cut, leads-done}
 

@@ -1,9 +1,5 @@
-use mathlib.Core.Path.{_≡_}
 use native.Mathlib.Omega.{arith}
-use Prim.Native.Nat.{ℕ, _<_}
-use lib.ListN.{length, getD}
 use Rattle.std.proofs.shelf.Results.{err-from-errBy}
-use Rattle.std.specs.declared.result.Result.the-variants.{Err}
 use Rattle.model.specs.Memory.{Memory, Halfway, done, store}
 use Rattle.device.specs.Follows.{Follows}
 use Rattle.device.specs.Halves.{commits}
