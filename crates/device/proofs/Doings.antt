@@ -88,3 +88,12 @@ leads-part {p} {m} {n} {o} {q} {a} f l e =
 -- the last store of a function
 pub follows-store : {A E : Type 0} {p : Doing A} {m : Memory} (a w : ℕ) (x : A) (n e : Memory) (r : Result (Unit {0}) E) → Leads p m (store a w (done x)) n → Cases r (λ _. e ≡ stored a w n) (λ _. e ≡ n) → Follows p m r x e
 follows-store a w x n e r l c = cases-weaker r c (λ _ is. leads-done x (leads-store a w (done x) n e l is)) (λ _ is. leads-cut e l is)
+
+-- a doing that is done after p is cut where p is
+pub halfway-before : {A B : Type 0} (p : Doing A) (f : A → B) (m n : Memory) → Halfway (andThen p (λ a. done (f a))) m n → Halfway p m n
+unfolding andThen
+halfway-before (done a) f m n here = here
+halfway-before (load a q) f m n here = here
+halfway-before (load a q) f m n (afterLoad h) = afterLoad (halfway-before (q (m a)) f m n h)
+halfway-before (store a w q) f m n here = here
+halfway-before (store a w q) f m n (afterStore h) = afterStore (halfway-before q f (stored a w m) n h)

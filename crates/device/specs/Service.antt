@@ -26,11 +26,15 @@ pub record Service (C R X : Type 0) : Type 0 where
 abbrev pub keeping : Bool → List ℕ → Doing (Unit {0})
 keeping b h = cond b (commits h) (done tt)
 
+-- and then the answer is handed on
+abbrev pub finishing : {A : Type 0} → Bool → List ℕ → A → Doing A
+finishing b h a = andThen (keeping b h) (λ _. done a)
+
 abbrev pub waking : {C R X : Type 0} → Service C R X → Doing X
 waking v = andThen (wakening (v .size)) (λ h. done (v .wakeOf h))
 
 abbrev pub answering : {C R X : Type 0} → Service C R X → C → X → Doing (Said R X)
-answering v c x = andThen (keeping (v .keeps c x) (v .homeOf (v .says c x .mind))) (λ _. done (v .says c x))
+answering v c x = finishing (v .keeps c x) (v .homeOf (v .says c x .mind)) (v .says c x)
 
 abbrev pub codeOf : {C R X : Type 0} → Service C R X → Code C R
 codeOf {C} {R} {X} v = record { Mind = X; wakes = waking v; does = answering v }

@@ -6,7 +6,7 @@ ghost use Rattle.device.specs.Counter.{meant, code, service, keeps, says, mind
 ghost use Rattle.device.specs.Follows.{Ended, FollowsTo};
 ghost use Rattle.device.specs.Service.{CallBudget};
 ghost use Rattle.device.specs.Told.{GoesOn, DoesSo, Runs};
-use crate::halves::keep;
+use crate::halves::finish;
 use crate::halves::wake;
 use crate::kept::Dark;
 use crate::kept::Kept;
@@ -72,8 +72,7 @@ impl Counter {
         ensures budget { λ _. ⌜ CallBudget service ask (mindOf (now (self .entry) .home) (now (self .entry) .asked)) (word (now (words .entry))) ⌝ }
     {
         let acted = self.act(ask);
-        keep(words, &self.home, acted.changed)?;
-        Ok(acted.reply)
+        finish(words, &self.home, acted.changed, acted.reply)
     }
 }
 
