@@ -1,0 +1,7 @@
+pub mod Follows
+pub mod Halves
+pub mod Budget
+pub mod Service
+pub mod Told
+pub mod Counter
+pub mod Bytes
