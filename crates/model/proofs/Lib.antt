@@ -10,6 +10,7 @@ pub mod Most
 pub mod Worlds
 pub mod Runs
 pub mod Rights
+pub mod Ways
 pub mod Kin
 pub mod Numbers
 pub mod Ordered

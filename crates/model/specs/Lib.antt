@@ -5,6 +5,7 @@ pub mod Calls
 pub mod World
 pub mod Memory
 pub mod Right
+pub mod Ways
 pub mod Promise
 pub mod Wire
 pub mod Lines
