@@ -5,3 +5,4 @@ pub mod Service
 pub mod Told
 pub mod Counter
 pub mod Bytes
+pub mod Server
