@@ -5,3 +5,4 @@ pub mod Frames
 pub mod TaskRows
 pub mod MoveLaws
 pub mod Finds
+pub mod Back

@@ -1,0 +1,1 @@
+// Jobs in their rows.
