@@ -6,3 +6,4 @@ pub mod TaskRows
 pub mod MoveLaws
 pub mod Finds
 pub mod Back
+pub mod HoleLaws

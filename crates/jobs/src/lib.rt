@@ -15,4 +15,4 @@ pub mod kinds;
 pub mod finding;
 pub mod machine;
 pub mod encoding;
-pub mod job_rows;
+pub mod closing;
