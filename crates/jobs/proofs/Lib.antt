@@ -7,3 +7,5 @@ pub mod MoveLaws
 pub mod Finds
 pub mod Back
 pub mod HoleLaws
+pub mod TableLaws
+pub mod JobLaws

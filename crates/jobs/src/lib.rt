@@ -16,3 +16,5 @@ pub mod finding;
 pub mod machine;
 pub mod encoding;
 pub mod closing;
+pub mod job_rows;
+pub mod machine_rows;
