@@ -9,3 +9,4 @@ pub mod Back
 pub mod HoleLaws
 pub mod TableLaws
 pub mod JobLaws
+pub mod MachineLaws

@@ -108,10 +108,10 @@ module _ {X : Type 0} (g : List ℕ → ℕ → X) (b w : ℕ) where
        ap length (decoded ws fs h n e) ∙ length-map (span (entryAt b w ws fs) 0 n) (λ (x : Entry). g (x .row) (x .flag)) ∙ c .count)
 
 -- a part of the words, and that part written anew
-part-at : (o n : ℕ) (ws : List ℕ) (i : ℕ) → i < n → at (take n (drop o ws)) i ≡ at ws (o + i)
+pub part-at : (o n : ℕ) (ws : List ℕ) (i : ℕ) → i < n → at (take n (drop o ws)) i ≡ at ws (o + i)
 part-at o n ws i h = getD-take n (drop o ws) i 0 h ∙ getD-drop o ws i 0
 
-put-at : (o n : ℕ) (ws r : List ℕ) (i : ℕ) → i < n → o + n ≤ length ws → length r ≡ n → at (putMid o n ws r) (o + i) ≡ at r i
+pub put-at : (o n : ℕ) (ws r : List ℕ) (i : ℕ) → i < n → o + n ≤ length ws → length r ≡ n → at (putMid o n ws r) (o + i) ≡ at r i
 put-at o n ws r i h l e = sym (part-at o n (putMid o n ws r) i h) ∙ ap (λ (xs : List ℕ). at xs i) (put-row n o n ws r (omega arith) e)
 
 module _ (home live mid fs' : List ℕ) (n to : ℕ) (fits : homeWords ≤ length home) (flags : liveWords ≤ length live) (is : n ≡ taskRows home) (c : Closed 12808 27 n home (take 2048 (drop 256 live)) mid fs' to) where
