@@ -10,3 +10,4 @@ pub mod HoleLaws
 pub mod TableLaws
 pub mod JobLaws
 pub mod MachineLaws
+pub mod Darkness

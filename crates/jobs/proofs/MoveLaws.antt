@@ -90,7 +90,7 @@ module _ (home live mid : List ℕ) (j n : ℕ) (fits : homeWords ≤ length hom
 map-slot : {X : Type 0} (g : List ℕ → ℕ → X) (r : List ℕ) (v : ℕ) → cond (eqb (at r 0) 0) [] (g r v ∷ []) ≡ map (λ (e : Entry). g (e .row) (e .flag)) (cond (eqb (at r 0) 0) [] (record { row = r; flag = v } ∷ []))
 map-slot g r v = elim (cases-bool (eqb (at r 0) 0)) [ inl t ↦ rw t | inr n ↦ rw n ]
 
-span-map : {X Y : Type 0} (g : X → Y) (f : ℕ → List X) (a n : ℕ) → span (λ i. map g (f i)) a n ≡ map g (span f a n)
+pub span-map : {X Y : Type 0} (g : X → Y) (f : ℕ → List X) (a n : ℕ) → span (λ i. map g (f i)) a n ≡ map g (span f a n)
 unfolding span
 span-map g f a zero = refl
 span-map {Y = Y} g f a (suc n) = ap (λ (ys : List Y). map g (f a) ++ ys) (span-map g f (suc a) n) ∙ sym (map-append g (f a) (span f (suc a) n))

@@ -18,7 +18,7 @@ use crate::rows::machine_row;
 use crate::rows::machine_rows;
 
 // Has a job's row that name.
-fn job_named(row: &[u64], name: &Name) -> bool
+pub fn job_named(row: &[u64], name: &Name) -> bool
     requires { ⌜ length (now row) ≡ 26 ⌝ }
     ensures { λ r. ⌜ r ≡ same (nameOf (now (name .entry))) (nameFrom (take 23 (now (row .entry)))) ⌝ }
 {

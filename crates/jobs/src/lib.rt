@@ -18,3 +18,5 @@ pub mod encoding;
 pub mod closing;
 pub mod job_rows;
 pub mod machine_rows;
+pub mod dark;
+pub mod sums;
