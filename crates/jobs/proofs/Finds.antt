@@ -43,9 +43,9 @@ module _ {X : Type 0} (p : X → Bool) where
     pub find-other : (x : X) → f i ≡ x ∷ [] → p x ≡ false → find p (span f 0 (i + 1)) ≡ []
     find-other x e n = next (ap (find p) e ∙ find-not x n)
 
-    pub find-this : (n : ℕ) (x : X) → i < n → f i ≡ x ∷ [] → p x ≡ true → FoundAt f n (Some i) (find p (span f 0 n))
+    pub find-this : (n : ℕ) (x : X) → i < n → f i ≡ x ∷ [] → p x ≡ true → FoundAt p f n (Some i)
     find-this n x h e t =
-        (x, h, e, ap (find p) (span-at f i n h) ∙ find-append (span f 0 i) (f i ++ span f (i + 1) (n - (i + 1))) before ∙ ap (λ (ys : List X). find p (ys ++ span f (i + 1) (n - (i + 1)))) e ∙ find-one x (span f (i + 1) (n - (i + 1))) t)
+        (x, h, e, ap (find p) (span-at f i n h) ∙ find-append (span f 0 i) (f i ++ span f (i + 1) (n - (i + 1))) before ∙ ap (λ (ys : List X). find p (ys ++ span f (i + 1) (n - (i + 1)))) e ∙ find-one x (span f (i + 1) (n - (i + 1))) t, t, before)
 
   pub find-start : (f : ℕ → List X) → find p (span f 0 0) ≡ []
   find-start f = ap (find p) (span-none f 0) ∙ find-none

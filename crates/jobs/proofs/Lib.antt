@@ -5,3 +5,9 @@ pub mod Frames
 pub mod TaskRows
 pub mod MoveLaws
 pub mod Finds
+pub mod Back
+pub mod HoleLaws
+pub mod TableLaws
+pub mod JobLaws
+pub mod MachineLaws
+pub mod Darkness

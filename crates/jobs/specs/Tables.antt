@@ -9,7 +9,9 @@ use lib.ListN.{length, getD, take, drop}
 use Rattle.std.specs.Iters.{counting}
 use Rattle.std.specs.declared.option.Option.{Option}
 use Rattle.std.specs.Options.{Cases}
+use Rattle.model.specs.Lists.{find}
 use Rattle.model.specs.State as s
+use Rattle.model.specs.State.{withJobs, withMachines}
 use Rattle.jobs.specs.Layout.{jobBase, machineBase, taskBase, readyBase}
 use Rattle.jobs.specs.Rows.{at, rowAt, span, Only}
 
@@ -137,11 +139,29 @@ pub record TasksNow (ts : List s.Task) (home live home' live' : List ℕ) : Type
   pub last : at home' 0 ≡ at home 0
   pub frame : TasksOnly home live home' live'
 
--- row i of the tasks has these words now, all else stays
-pub record RowPut (i : ℕ) (r home home' : List ℕ) : Type 0 where
-  pub here : taskRow home' i ≡ r
-  pub only : Only (taskBase + i * 27) (taskBase + i * 27 + 27) home' home
+-- JOBS AND MACHINES CHANGE
 
--- FINDING: o is the row of the one in xs, or there is none
-abbrev pub FoundAt : {X : Type 0} → (ℕ → List X) → ℕ → Option ℕ → List X → Type 0
-FoundAt {X} f n o xs = Cases o (xs ≡ []) (λ i. (x : X) × (i < n) × (f i ≡ x ∷ []) × (xs ≡ x ∷ []))
+-- the jobs are js now, all else stays
+pub record JobsNow (js : List s.Job) (home home' : List ℕ) : Type 0 where
+  pub state : (live : List ℕ) (time : ℕ) → stateOf home' live time ≡ withJobs js (stateOf home live time)
+  pub long : length home' ≡ length home
+
+-- the machines are ms now, all else stays
+pub record MachinesNow (ms : List s.Machine) (home live home' live' : List ℕ) : Type 0 where
+  pub state : (time : ℕ) → stateOf home' live' time ≡ withMachines ms (stateOf home live time)
+  pub long : length home' ≡ length home
+  pub longLive : length live' ≡ length live
+
+-- row i of n stands for xs in place of what it did
+abbrev pub spanWith : {X : Type 0} → (ℕ → List X) → ℕ → ℕ → List X → List X
+spanWith f n i xs = span f 0 i ++ (xs ++ span f (i + 1) (n - (i + 1)))
+
+abbrev pub jobsWith : List ℕ → ℕ → List s.Job → List s.Job
+jobsWith home i xs = spanWith (jobAt home) (jobRows home) i xs
+
+abbrev pub machinesWith : List ℕ → List ℕ → ℕ → List s.Machine → List s.Machine
+machinesWith home live i xs = spanWith (machineAt home live) (machineRows home) i xs
+
+-- FINDING: o is the first row whose one passes the test, or none does
+abbrev pub FoundAt : {X : Type 0} → (X → Bool) → (ℕ → List X) → ℕ → Option ℕ → Type 0
+FoundAt {X} p f n o = Cases o (find p (span f 0 n) ≡ []) (λ i. (x : X) × (i < n) × (f i ≡ x ∷ []) × (find p (span f 0 n) ≡ x ∷ []) × (p x ≡ true) × (find p (span f 0 i) ≡ []))
