@@ -3,9 +3,7 @@ pub mod Hearing
 pub mod Sweep
 pub mod TaskIn
 pub mod Doubting
-pub mod Parts
-pub mod Rowed
-pub mod MachineRows
+pub mod Changes
 pub mod News
 pub mod Noted
 pub mod Outcomes

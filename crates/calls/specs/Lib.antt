@@ -2,7 +2,6 @@ pub mod Meaning
 pub mod Seen
 pub mod Heard
 pub mod Answers
-pub mod Machines
 pub mod Acted
 pub mod Reports
 pub mod Times

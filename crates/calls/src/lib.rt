@@ -3,7 +3,6 @@ pub mod answer;
 pub mod call;
 pub mod clock;
 pub mod heard;
-pub mod machines;
 pub mod outcome;
 pub mod report;
 pub mod seen;

@@ -16,9 +16,9 @@ use crate::answer::Answer;
 use crate::answer::Refusal;
 use crate::answer::RunOn;
 use crate::call::Reported;
-use crate::machines::note_report;
 use crate::sweeps::hear;
 use jobs::finding::find_machine;
+use jobs::machine_rows;
 use jobs::rows::machine_row;
 use settling::pass::settle;
 
@@ -66,7 +66,7 @@ fn take(home: &mut [u64], live: &mut [u64], time: u64, i: usize, report: Reporte
     ensures long { λ _. ⌜ (length (now (home .exit)) ≡ length (now (home .entry))) × (length (now (live .exit)) ≡ length (now (live .entry))) ⌝ }
 {
     hear(home, live, report);
-    note_report(home, live, i, report.life, report.number, time);
+    machine_rows::hear(home, live, i, report.life, report.number, time);
     settle(home, live, time);
 }
 

@@ -1,10 +1,7 @@
 use mathlib.Core.Path.{_≡_, refl, sym, _∙_, ap}
 use mathlib.Core.List.{List, [], _∷_}
 use native.Mathlib.Omega.{arith}
-use Rattle.model.specs.State.{isMachine}
-use Rattle.model.proofs.Lists.Chosen.{find-in}
-use Rattle.jobs.specs.Tables.{machinesOf}
-use Rattle.calls.proofs.MachineRows.{row-news}
+use Rattle.calls.proofs.Changes.{row-news}
 use Rattle.calls.proofs.News.{bad, unknown, stale, news, same-stale}
 use Rattle.calls.proofs.report.check.Needs as need
 
@@ -22,7 +19,7 @@ returns-then-stale c = λ live time.
 pub returns : need.returns
 returns c = λ live time.
     let f = c .in-Some .ensures tt live in let w = row-news (c .args .home .now) live (c .machine-row-row .result .now) (c .in-Some .i) (f .0) (c .machine-row-row .ensures .is) (f .2) in
-    (f .0, f .1, f .2, find-in (isMachine (c .args .report .machine .0)) (machinesOf (c .args .home .now) live) (f .0) [] (f .3) .1,
+    ((f .0, f .1, f .2, f .4, f .5),
       news (c .args .report) _ (sym (c .out-of-range .ensures) ∙ c .if-out-of-range .left) (f .0) (f .3) (sym (same-stale (c .args .report) _ _ _ _ (w .0) (w .1)) ∙ sym (c .stale .ensures) ∙ c .if-stale .left))
 
 pub machine-row-row-requires : need.machine-row-row-requires
