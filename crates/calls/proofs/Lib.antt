@@ -8,3 +8,5 @@ pub mod News
 pub mod Noted
 pub mod Outcomes
 pub mod Timed
+pub mod Sounds
+pub mod Keeping

@@ -1,8 +1,10 @@
 // Calls and answers, as values of the code: what is said to the herd, and what it says.
+pub mod act;
 pub mod answer;
 pub mod call;
 pub mod clock;
 pub mod heard;
+pub mod mind;
 pub mod outcome;
 pub mod report;
 pub mod seen;

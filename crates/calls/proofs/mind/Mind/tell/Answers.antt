@@ -1,0 +1,10 @@
+use borrow.Author.Needs.{needs}
+use Rattle.calls.proofs.Keeping.{acted-sound}
+use Rattle.calls.proofs.Sounds.{sound-fine}
+use Rattle.calls.proofs.mind.Mind.tell.Needs as need
+
+pub tell-requires : need.tell-requires
+tell-requires c κs = record { words = search needs; flags = search needs; fine = sound-fine (c .args .self .now .home) (c .args .self .now .live) (c .args .self .now .time) (c .args .self .now .sound) }
+
+pub ghost-self : need.ghost-self
+ghost-self c = (acted-sound _ _ _ _ _ _ _ _ (c .in-Some .ensures tt .told) (c .args .self .now .sound), tt)
