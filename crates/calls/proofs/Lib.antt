@@ -10,3 +10,4 @@ pub mod Outcomes
 pub mod Timed
 pub mod Sounds
 pub mod Keeping
+pub mod TagBytes

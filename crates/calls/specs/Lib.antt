@@ -6,3 +6,4 @@ pub mod Acted
 pub mod Reports
 pub mod Times
 pub mod Sound
+pub mod Adding

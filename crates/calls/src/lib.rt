@@ -1,5 +1,6 @@
 // Calls and answers, as values of the code: what is said to the herd, and what it says.
 pub mod act;
+pub mod add;
 pub mod answer;
 pub mod call;
 pub mod clock;
@@ -9,3 +10,4 @@ pub mod outcome;
 pub mod report;
 pub mod seen;
 pub mod sweeps;
+pub mod tags;
