@@ -9,3 +9,4 @@ pub mod Weighs
 pub mod Tags
 pub mod Bests
 pub mod Placements
+pub mod Numbers

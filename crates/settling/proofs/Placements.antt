@@ -179,9 +179,9 @@ slot-is true x m e = absurd (let z : _≡_ {A = ℕ} 0 1 = cc in omega arith)
 slot-is false x m e = cc
 
 -- a machine's row is read, and the task told to it
-pub told-to : (home live home' live' row : List ℕ) (i k : ℕ) (m : s.Machine) → row ≡ machineRow home k → machineAt home live k ≡ m ∷ [] → TaskPut i (placeEach (at row 1 % 65536) (at row 5) (taskAt home live i)) home live home' live' → TaskPut i (placeEach (m .num) (m .life) (taskAt home live i)) home live home' live'
-told-to home live home' live' row i k m r e p =
+pub told-to : (home live home' live' row : List ℕ) (i k : ℕ) (m : s.Machine) (v u : ℕ) → v ≡ at row 1 % 65536 → u ≡ at row 5 → row ≡ machineRow home k → machineAt home live k ≡ m ∷ [] → TaskPut i (placeEach v u (taskAt home live i)) home live home' live' → TaskPut i (placeEach (m .num) (m .life) (taskAt home live i)) home live home' live'
+told-to home live home' live' row i k m v u a b r e p =
     let is : machineFrom (machineRow home k) (at live k) ≡ m = slot-is (eqb (at (machineRow home k) 0) 0) (machineFrom (machineRow home k) (at live k)) m e in
-    let num : at row 1 % 65536 ≡ m .num = ap (λ (x : List ℕ). at x 1 % 65536) r ∙ ap (λ (x : s.Machine). x .num) is in
-    let life : at row 5 ≡ m .life = ap (λ (x : List ℕ). at x 5) r ∙ ap (λ (x : s.Machine). x .life) is in
-    subst (λ (l : ℕ). TaskPut i (placeEach (m .num) l (taskAt home live i)) home live home' live') life (subst (λ (n : ℕ). TaskPut i (placeEach n (at row 5) (taskAt home live i)) home live home' live') num p)
+    let num : v ≡ m .num = a ∙ ap (λ (x : List ℕ). at x 1 % 65536) r ∙ ap (λ (x : s.Machine). x .num) is in
+    let life : u ≡ m .life = b ∙ ap (λ (x : List ℕ). at x 5) r ∙ ap (λ (x : s.Machine). x .life) is in
+    subst (λ (l : ℕ). TaskPut i (placeEach (m .num) l (taskAt home live i)) home live home' live') life (subst (λ (n : ℕ). TaskPut i (placeEach n u (taskAt home live i)) home live home' live') num p)

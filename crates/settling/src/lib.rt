@@ -12,3 +12,5 @@ pub mod loads;
 pub mod choosing;
 pub mod placing;
 pub mod pass;
+#[cfg(test)]
+mod tests;

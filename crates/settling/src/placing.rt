@@ -1,9 +1,10 @@
 // Tasks that wait are told to machines.
 ghost use mathlib.Core.Path.{_≡_};
-ghost use Prim.Native.Nat.{ℕ, _+_, _*_, _<_, _≤_};
+ghost use Prim.Native.Nat.{ℕ, _+_, _*_, _%_, _<_, _≤_};
 ghost use lib.ListN.{length, getD};
 ghost use Rattle.model.specs.Settle.{placing as placedAll};
 ghost use Rattle.jobs.specs.Layout.{homeWords, liveWords};
+ghost use Rattle.jobs.specs.Rows.{at};
 ghost use Rattle.jobs.specs.Tables.{taskRows, stateOf};
 ghost use Rattle.settling.specs.Scan.{Numbered, Became};
 ghost use Rattle.settling.specs.Place.{PlacedRow};
@@ -20,6 +21,15 @@ use jobs::rows::task_kind;
 use jobs::rows::task_row;
 use jobs::rows::task_rows;
 use jobs::tasks::place_task;
+
+// The place on the machine in a row, in the life that was last heard.
+fn place_on(row: &[u64]) -> Place
+    requires { ⌜ length (now row) ≡ 24 ⌝ }
+    ensures machine { λ r. ⌜ r .machine .0 ≡ at (now (row .entry)) 1 % 65536 ⌝ }
+    ensures life { λ r. ⌜ r .life .0 ≡ at (now (row .entry)) 5 ⌝ }
+{
+    Place { machine: MachineId((row[1] % 65536) as u16), life: Life(row[5]) }
+}
 
 // The task in row `i`, if it waits, goes to the best machine that takes it beside all that is there.
 fn place_row(home: &mut [u64], live: &mut [u64], i: usize, loads: &mut [Load], time: u64)
@@ -43,8 +53,7 @@ fn place_row(home: &mut [u64], live: &mut [u64], i: usize, loads: &mut [Load], t
     weigh_all(home, &name, loads);
     match choose(home, live, i, &spec, loads, time) {
         Some(choice) => {
-            let machine = machine_row(home, choice.at);
-            let place = Place { machine: MachineId((machine[1] % 65536) as u16), life: Life(machine[5]) };
+            let place = place_on(machine_row(home, choice.at));
             place_task(home, live, i, place);
         }
         None => {}

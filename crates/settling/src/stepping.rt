@@ -1,6 +1,7 @@
 // One step for one job.
 ghost use mathlib.Core.Path.{_≡_};
 ghost use Prim.Native.Nat.{ℕ, _+_, _*_, _<_, _≤_};
+ghost use lib.Dec.{ltb};
 ghost use lib.ListN.{length, getD};
 ghost use Rattle.model.specs.Settle.{forJob, forJobs};
 ghost use Rattle.jobs.specs.Layout.{homeWords, liveWords};
@@ -10,10 +11,25 @@ ghost use Rattle.settling.specs.Scan.{Numbered, Became};
 use crate::counting::tally_of;
 use crate::ending::to_end;
 use crate::growing::grow;
+use crate::tally::Tally;
 use jobs::job::Job;
 use jobs::kinds::job_from;
 use jobs::rows::job_row;
 use jobs::tasks::end_task;
+
+// Are more ready than are to stay.
+fn enough_ready(job: &Job, tally: &Tally) -> bool
+    ensures { λ r. ⌜ r ≡ ltb (now (job .entry) .least) (now (tally .entry) .ready) ⌝ }
+{
+    (job.least as usize) < tally.ready
+}
+
+// Are there more of the present version than are wanted.
+fn too_many(job: &Job, tally: &Tally) -> bool
+    ensures { λ r. ⌜ r ≡ ltb (now (job .entry) .count) (now (tally .entry) .new) ⌝ }
+{
+    (job.count as usize) < tally.new
+}
 
 // One task of an older version ends; else one too many; a new one comes where one is missing.
 fn step_for(home: &mut [u64], live: &mut [u64], j: usize, job: &Job, time: u64)
@@ -25,12 +41,12 @@ fn step_for(home: &mut [u64], live: &mut [u64], j: usize, job: &Job, time: u64)
     ensures { λ _. ⌜ Became (forJob (jobOf (now (job .entry))) (stateOf (now (home .entry)) (now (live .entry)) time)) (now (home .entry)) (now (live .entry)) (now (home .exit)) (now (live .exit)) time ⌝ }
 {
     let tally = tally_of(home, live, job, time);
-    let enough = (job.least as usize) < tally.ready;
+    let enough = enough_ready(job, &tally);
     if let Some(i) = to_end(tally.old, enough) {
         end_task(home, i);
         let rest = tally_of(home, live, job, time);
         grow(home, live, j, job, &rest, time);
-    } else if (job.count as usize) < tally.new {
+    } else if too_many(job, &tally) {
         if let Some(i) = to_end(tally.newer, enough) {
             end_task(home, i);
         }

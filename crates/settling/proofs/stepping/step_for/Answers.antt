@@ -6,7 +6,6 @@ use native.Mathlib.Omega.{arith}
 use lib.Dec.{ltb}
 use lib.ListN.{length}
 use Rattle.std.specs.declared.option.Option.the-variants.{Some, None}
-use Rattle.std.proofs.shelf.Tests.{lt-ltb, le-ltb}
 use Rattle.model.specs.Settle.{mine, alive, newOnes, oldToEnd, newToEnd}
 use Rattle.jobs.specs.Tables.{taskAt, taskRows, tasksOf, jobFrom, jobRow, stateOf}
 use Rattle.jobs.specs.Values.{jobOf}
@@ -32,7 +31,7 @@ returns-in-Some c =
     let f = taskAt home live in
     let st = stateOf home live (c .args .time) in
     let y = c .tally-of-tally .result in
-    let k : OneAt f (taskRows home) (Some (c .in-Some .i)) (oldToEnd j st) = one-at f (taskRows home) (c .to-end .result) _ (Some (c .in-Some .i)) (oldToEnd j st) (c .to-end .ensures) (c .in-Some .is) (old-end j st f (taskRows home) y refl (c .tally-of-tally .ensures) _ refl) in
+    let k : OneAt f (taskRows home) (Some (c .in-Some .i)) (oldToEnd j st) = one-at f (taskRows home) (c .to-end .result) _ (Some (c .in-Some .i)) (oldToEnd j st) (c .to-end .ensures) (c .in-Some .is) (old-end j st f (taskRows home) y refl (c .tally-of-tally .ensures) (c .enough-ready-enough .result) (c .enough-ready-enough .ensures)) in
     for-old j home live (c .args .time) (c .pre .words) (c .pre .numbered) (c .in-Some .i) (c .end-task .last .home) (c .grow .last .home) (c .grow .last .live) k (c .end-task .ensures live) (c .grow .ensures .state) (c .grow .ensures .frame)
 
 pub returns-in-Some-to-end : need.returns-in-Some-to-end
@@ -43,9 +42,9 @@ returns-in-Some-to-end c =
     let f = taskAt home live in
     let st = stateOf home live (c .args .time) in
     let y = c .tally-of-tally .result in
-    let o : oldToEnd j st ≡ [] = one-at f (taskRows home) (c .to-end .result) _ None (oldToEnd j st) (c .to-end .ensures) (c .in-rest .is) (old-end j st f (taskRows home) y refl (c .tally-of-tally .ensures) _ refl) in
-    let m : ltb (j .count) (length (newOnes j (alive (mine j (tasksOf home live))))) ≡ true = ap (ltb (j .count)) (sym (c .tally-of-tally .ensures .new)) ∙ lt-ltb _ _ (c .if-job-tally .taken) in
-    let k : OneAt f (taskRows home) (Some (c .in-Some-to-end .i)) (newToEnd j st) = one-at f (taskRows home) (c .to-end-then-job-tally .result) _ (Some (c .in-Some-to-end .i)) (newToEnd j st) (c .to-end-then-job-tally .ensures) (c .in-Some-to-end .is) (new-end j st f (taskRows home) y refl (c .tally-of-tally .ensures) _ refl) in
+    let o : oldToEnd j st ≡ [] = one-at f (taskRows home) (c .to-end .result) _ None (oldToEnd j st) (c .to-end .ensures) (c .in-rest .is) (old-end j st f (taskRows home) y refl (c .tally-of-tally .ensures) (c .enough-ready-enough .result) (c .enough-ready-enough .ensures)) in
+    let m : ltb (j .count) (length (newOnes j (alive (mine j (tasksOf home live))))) ≡ true = ap (ltb (j .count)) (sym (c .tally-of-tally .ensures .new)) ∙ sym (c .too-many .ensures) ∙ c .if-too-many .taken in
+    let k : OneAt f (taskRows home) (Some (c .in-Some-to-end .i)) (newToEnd j st) = one-at f (taskRows home) (c .to-end-then-too-many .result) _ (Some (c .in-Some-to-end .i)) (newToEnd j st) (c .to-end-then-too-many .ensures) (c .in-Some-to-end .is) (new-end j st f (taskRows home) y refl (c .tally-of-tally .ensures) (c .enough-ready-enough .result) (c .enough-ready-enough .ensures)) in
     for-new j home live (c .args .time) (c .pre .words) (c .pre .numbered) (c .in-Some-to-end .i) (c .end-task-in-Some-to-end .last .home) o m k (c .end-task-in-Some-to-end .ensures live)
 
 pub returns-in-rest-to-end : need.returns-in-rest-to-end
@@ -56,19 +55,19 @@ returns-in-rest-to-end c =
     let f = taskAt home live in
     let st = stateOf home live (c .args .time) in
     let y = c .tally-of-tally .result in
-    let o : oldToEnd j st ≡ [] = one-at f (taskRows home) (c .to-end .result) _ None (oldToEnd j st) (c .to-end .ensures) (c .in-rest .is) (old-end j st f (taskRows home) y refl (c .tally-of-tally .ensures) _ refl) in
-    let m : ltb (j .count) (length (newOnes j (alive (mine j (tasksOf home live))))) ≡ true = ap (ltb (j .count)) (sym (c .tally-of-tally .ensures .new)) ∙ lt-ltb _ _ (c .if-job-tally .taken) in
-    let k : newToEnd j st ≡ [] = one-at f (taskRows home) (c .to-end-then-job-tally .result) _ None (newToEnd j st) (c .to-end-then-job-tally .ensures) (c .in-rest-to-end .is) (new-end j st f (taskRows home) y refl (c .tally-of-tally .ensures) _ refl) in
+    let o : oldToEnd j st ≡ [] = one-at f (taskRows home) (c .to-end .result) _ None (oldToEnd j st) (c .to-end .ensures) (c .in-rest .is) (old-end j st f (taskRows home) y refl (c .tally-of-tally .ensures) (c .enough-ready-enough .result) (c .enough-ready-enough .ensures)) in
+    let m : ltb (j .count) (length (newOnes j (alive (mine j (tasksOf home live))))) ≡ true = ap (ltb (j .count)) (sym (c .tally-of-tally .ensures .new)) ∙ sym (c .too-many .ensures) ∙ c .if-too-many .taken in
+    let k : newToEnd j st ≡ [] = one-at f (taskRows home) (c .to-end-then-too-many .result) _ None (newToEnd j st) (c .to-end-then-too-many .ensures) (c .in-rest-to-end .is) (new-end j st f (taskRows home) y refl (c .tally-of-tally .ensures) (c .enough-ready-enough .result) (c .enough-ready-enough .ensures)) in
     for-none j home live (c .args .time) (c .pre .words) (c .pre .numbered) o m k
 
-pub returns-else-job-tally : need.returns-else-job-tally
-returns-else-job-tally c =
+pub returns-else-too-many : need.returns-else-too-many
+returns-else-too-many c =
     let home = c .args .home .now in
     let live = c .args .live .now in
     let j = jobOf (c .args .job .now) in
     let f = taskAt home live in
     let st = stateOf home live (c .args .time) in
     let y = c .tally-of-tally .result in
-    let o : oldToEnd j st ≡ [] = one-at f (taskRows home) (c .to-end .result) _ None (oldToEnd j st) (c .to-end .ensures) (c .in-rest .is) (old-end j st f (taskRows home) y refl (c .tally-of-tally .ensures) _ refl) in
-    let m : ltb (j .count) (length (newOnes j (alive (mine j (tasksOf home live))))) ≡ false = ap (ltb (j .count)) (sym (c .tally-of-tally .ensures .new)) ∙ le-ltb _ _ (c .if-job-tally .left) in
-    for-grow j home live (c .args .time) (c .pre .words) (c .pre .numbered) (c .grow-else-job-tally .last .home) (c .grow-else-job-tally .last .live) o m (c .grow-else-job-tally .ensures .state) (c .grow-else-job-tally .ensures .frame)
+    let o : oldToEnd j st ≡ [] = one-at f (taskRows home) (c .to-end .result) _ None (oldToEnd j st) (c .to-end .ensures) (c .in-rest .is) (old-end j st f (taskRows home) y refl (c .tally-of-tally .ensures) (c .enough-ready-enough .result) (c .enough-ready-enough .ensures)) in
+    let m : ltb (j .count) (length (newOnes j (alive (mine j (tasksOf home live))))) ≡ false = ap (ltb (j .count)) (sym (c .tally-of-tally .ensures .new)) ∙ sym (c .too-many .ensures) ∙ c .if-too-many .left in
+    for-grow j home live (c .args .time) (c .pre .words) (c .pre .numbered) (c .grow-else-too-many .last .home) (c .grow-else-too-many .last .live) o m (c .grow-else-too-many .ensures .state) (c .grow-else-too-many .ensures .frame)
