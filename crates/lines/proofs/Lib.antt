@@ -5,3 +5,4 @@ pub mod Standing
 pub mod Reading
 pub mod Hexing
 pub mod Parsing
+pub mod Writing

@@ -7,3 +7,4 @@ pub mod Resume
 pub mod Digits
 pub mod Ends
 pub mod Reads
+pub mod Puts

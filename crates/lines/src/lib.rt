@@ -7,3 +7,4 @@ pub mod reader;
 pub mod stage;
 pub mod step;
 pub mod theorems;
+pub mod write;
