@@ -6,3 +6,5 @@ pub mod Reading
 pub mod Hexing
 pub mod Parsing
 pub mod Writing
+pub mod Naming
+pub mod Listing

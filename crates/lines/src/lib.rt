@@ -2,6 +2,8 @@
 pub mod answer;
 pub mod hex;
 pub mod line;
+pub mod list;
+pub mod named;
 pub mod read;
 pub mod reader;
 pub mod stage;
