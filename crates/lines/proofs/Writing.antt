@@ -10,6 +10,7 @@ use mir.Val.{boolByte}
 use lib.ListN.{length, take, drop, getD, set, length-set}
 use Rattle.std.proofs.shelf.Lists.{same-lists, places, drop-at, drop-set-lt, drop-take, take-at, take-more, take-more-set, length-append, length-drop, length-take-le}
 use Rattle.model.specs.Wire.{Bytes, bytesOf, flagOf, tagBytes, specBytes}
+use Rattle.model.specs.Lines.{framed}
 use Rattle.bytes.proofs.Numbers.{length-bytesOf}
 use Rattle.jobs.proofs.Words.{row-length}
 use Rattle.lines.specs.Puts.{Puts}
@@ -118,3 +119,10 @@ puts-spec image cpu mem t tags apart h p q r s u v =
     let w : midOf 0 (t - 0) tags ≡ take t tags = rw z refl in
     let y : t ≡ length (take t tags) = sym (length-take-le t tags h) in
     puts-then p (puts-then q (puts-then r (puts-then (puts-as (ap (λ (x : ℕ). x ∷ []) y) s) (puts-then (puts-as (ap tagBytes w) u) (puts-as (ap (λ (x : ℕ). x ∷ []) (flag-byte apart)) v)))))
+
+-- A FRAME, written around what stands behind its place
+pub puts-framed : {body a b c d : Bytes} {m r s : ℕ} (tag n : ℕ) → 8 ≤ length a → Puts body a b 8 m → Puts (bytesOf 4 tag) b c 4 r → r ≡ 4 + 4 → Puts (bytesOf 4 n) c d 0 s → s ≡ 0 + 4 → n ≡ m - 4 → Puts (framed tag body) a d 0 m
+puts-framed {body} {a} {b} {c} {d} {m} {r} {s} tag n h p q e f g k =
+    let u : n ≡ 4 + length body = omega (arith, p .end, k) in
+    let t = puts-back h p (subst (λ (z : ℕ). Puts (bytesOf 4 tag) b c 4 z) e q) in
+    puts-back (omega (arith, h)) t (puts-as (ap (bytesOf 4) u) (subst (λ (z : ℕ). Puts (bytesOf 4 n) c d 0 z) g f))

@@ -8,3 +8,4 @@ pub mod Digits
 pub mod Ends
 pub mod Reads
 pub mod Puts
+pub mod Replied

@@ -6,6 +6,7 @@ pub mod list;
 pub mod named;
 pub mod read;
 pub mod reader;
+pub mod reply;
 pub mod stage;
 pub mod step;
 pub mod theorems;
