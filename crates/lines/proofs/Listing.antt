@@ -25,7 +25,7 @@ use Rattle.lines.proofs.Writing.{puts-none, puts-then, puts-back, puts-as}
 
 -- it is to run on machine k if it is neither waiting nor ending, and there
 runs-task : (t : Task) (k w m ready : ℕ) → t .phase ≡ phaseFrom w ready → t .machine ≡ cond (eqb w 0) 0 m →
-  orders (keep (onMachine k) (t ∷ [])) ≡ cond (eqb w 1 && eqb k m) (record { id = t .id; spec = t .spec } ∷ []) []
+    orders (keep (onMachine k) (t ∷ [])) ≡ cond (eqb w 1 && eqb k m) (record { id = t .id; spec = t .spec } ∷ []) []
 unfolding keep orders
 runs-task t k zero m ready p q = rw p
 runs-task t k (suc zero) m ready p q =
@@ -140,7 +140,7 @@ module _ (row : List ℕ) (k : ℕ) where
   order-out ready a n c e = lists-nothing _ orderBytes (orders-one-by-one k) _ a n c (order-slot row k ready ∙ ap (λ (b : Bool). cond b (orderIn row ∷ []) []) (sym e))
 
   pub order-in : {a b d : Bytes} {n m l : ℕ} (ready c : ℕ) (spec : Spec) → true ≡ runs → spec ≡ specFrom (drop 4 row) → Puts (bytesOf 8 (at row 0)) a b n m → Puts (specBytes spec) b d m l →
-    Lists orderBytes (orders (keep (onMachine k) (taskSlot row ready))) a d n c l (c + 1)
+      Lists orderBytes (orders (keep (onMachine k) (taskSlot row ready))) a d n c l (c + 1)
   order-in {a} {b} {d} {n} {m} {l} ready c spec e s p q =
       lists-one _ orderBytes (orders-one-by-one k) _ (orderIn row) a d n l c (order-slot row k ready ∙ ap (λ (b : Bool). cond b (orderIn row ∷ []) []) (sym e)) (puts-as (order-bytes (orderIn row)) (puts-then p (puts-as (ap specBytes s) q)))
 
@@ -152,7 +152,7 @@ module _ (row : List ℕ) (name : Name) where
   line-out ready a n c e = lists-nothing _ lineBytes (lines-one-by-one name) _ a n c (line-slot row name ready ∙ ap (λ (b : Bool). cond b (lineIn row ready ∷ []) []) (sym e))
 
   pub line-in : {a b d e f : Bytes} {n m l i j : ℕ} (ready c v p k : ℕ) → true ≡ named → v ≡ versionFrom (drop 4 row) → p ≡ phaseOf (phaseFrom (at row 1) ready) → k ≡ cond (eqb (at row 1) 0) 0 (at row 2 % 65536) →
-    Puts (bytesOf 8 (at row 0)) a b n m → Puts (bytesOf 4 v) b d m l → Puts (p ∷ []) d e l i → Puts (bytesOf 2 k) e f i j → Lists lineBytes (linesOf (keep (ofJob name) (taskSlot row ready))) a f n c j (c + 1)
+      Puts (bytesOf 8 (at row 0)) a b n m → Puts (bytesOf 4 v) b d m l → Puts (p ∷ []) d e l i → Puts (bytesOf 2 k) e f i j → Lists lineBytes (linesOf (keep (ofJob name) (taskSlot row ready))) a f n c j (c + 1)
   line-in {a} {b} {d} {e} {f} {n} {m} {l} {i} {j} ready c v p k t u w x q r y z =
       lists-one _ lineBytes (lines-one-by-one name) _ (lineIn row ready) a f n j c (line-slot row name ready ∙ ap (λ (b : Bool). cond b (lineIn row ready ∷ []) []) (sym t))
       (puts-as (line-bytes (lineIn row ready)) (puts-then q (puts-then (puts-as (ap (bytesOf 4) u) r) (puts-then (puts-as (ap (λ (s : ℕ). s ∷ []) w) y) (puts-as (ap (bytesOf 2) x) z)))))

@@ -46,7 +46,8 @@ puts-then {xs} {ys} {a} {b} {c} {i} {j} {k} p q = record {
   bytes = q .bytes ∙ ap (λ (t : Bytes). t ++ ys) (p .bytes) ∙ append-assoc (take i a) xs ys;
   end = let e = length-append xs ys in omega (arith, p .end, q .end);
   rest = q .rest ∙ drop-further j k b a (omega (arith, q .end)) (p .rest);
-  long = q .long ∙ p .long }
+  long = q .long ∙ p .long;
+}
 
 pub puts-as : {xs ys a b : Bytes} {i j : ℕ} → xs ≡ ys → Puts xs a b i j → Puts ys a b i j
 puts-as {xs} {ys} {a} {b} {i} {j} e p = subst (λ (t : Bytes). Puts t a b i j) e p
@@ -57,10 +58,11 @@ puts-byte n at out h = record { bytes = take-more-set out at n (omega arith); en
 -- what stands in front is written afterwards, into the place that was left for it
 pub puts-back : {xs ys a b c : Bytes} {i j k : ℕ} → j ≤ length a → Puts ys a b j k → Puts xs b c i j → Puts (xs ++ ys) a c i k
 puts-back {xs} {ys} {a} {b} {c} {i} {j} {k} h p q = record {
-    bytes = ap (λ (n : ℕ). take n c) (p .end) ∙ take-add j (length ys) c ∙ ap (λ (t : Bytes). t ++ take (length ys) (drop j c)) (q .bytes) ∙ ap (λ (t : Bytes). (take i b ++ xs) ++ t) behind ∙ append-assoc (take i b) xs ys ∙ ap (λ (t : Bytes). t ++ (xs ++ ys)) front;
-    end = let e = length-append xs ys in omega (arith, p .end, q .end);
-    rest = drop-further j k c b (omega (arith, p .end)) (q .rest) ∙ p .rest;
-    long = q .long ∙ p .long }
+  bytes = ap (λ (n : ℕ). take n c) (p .end) ∙ take-add j (length ys) c ∙ ap (λ (t : Bytes). t ++ take (length ys) (drop j c)) (q .bytes) ∙ ap (λ (t : Bytes). (take i b ++ xs) ++ t) behind ∙ append-assoc (take i b) xs ys ∙ ap (λ (t : Bytes). t ++ (xs ++ ys)) front;
+  end = let e = length-append xs ys in omega (arith, p .end, q .end);
+  rest = drop-further j k c b (omega (arith, p .end)) (q .rest) ∙ p .rest;
+  long = q .long ∙ p .long;
+}
   where
     behind : take (length ys) (drop j c) ≡ ys
     behind =
@@ -78,7 +80,8 @@ puts-part w at out ys h e =
       bytes = ap (take (at + w)) (sym (append-assoc (take at out) ys (drop w (drop at out)))) ∙ take-at (take at out ++ ys) (drop w (drop at out)) (at + w) (length-append (take at out) ys ∙ omega (arith, e, f));
       end = omega (arith, e);
       rest = ap (drop (at + w)) (sym (append-assoc (take at out) ys (drop w (drop at out)))) ∙ drop-at (take at out ++ ys) (drop w (drop at out)) (at + w) (length-append (take at out) ys ∙ omega (arith, e, f)) ∙ sym (drop-add at w out);
-      long = simp (length-append, length-drop) (omega (arith, e, f)) }
+      long = simp (length-append, length-drop) (omega (arith, e, f));
+    }
 
 pub puts-number : (w n at : ℕ) (out ys : Bytes) → at + w ≤ length out → ys ≡ bytesOf (length (take (at + w - at) (drop at out))) n → Puts (bytesOf w n) out (putMid at (at + w - at) out ys) at (at + w)
 puts-number w n at out ys h e =
@@ -112,8 +115,8 @@ flag-byte false = refl
 
 -- A SPEC, part by part
 pub puts-spec : {a b c d e f g : Bytes} {i j k l m n o : ℕ} (image cpu mem t : ℕ) (tags : List ℕ) (apart : Bool) → t ≤ length tags →
-  Puts (bytesOf 4 image) a b i j → Puts (bytesOf 4 cpu) b c j k → Puts (bytesOf 4 mem) c d k l → Puts (t ∷ []) d e l m → Puts (tagBytes (midOf 0 (t - 0) tags)) e f m n → Puts (boolByte apart ∷ []) f g n o →
-  Puts (specBytes (record { image = image; cpu = cpu; mem = mem; tags = take t tags; apart = apart })) a g i o
+    Puts (bytesOf 4 image) a b i j → Puts (bytesOf 4 cpu) b c j k → Puts (bytesOf 4 mem) c d k l → Puts (t ∷ []) d e l m → Puts (tagBytes (midOf 0 (t - 0) tags)) e f m n → Puts (boolByte apart ∷ []) f g n o →
+    Puts (specBytes (record { image = image; cpu = cpu; mem = mem; tags = take t tags; apart = apart })) a g i o
 puts-spec image cpu mem t tags apart h p q r s u v =
     let z : t - 0 ≡ t = omega arith in
     let w : midOf 0 (t - 0) tags ≡ take t tags = rw z refl in

@@ -60,7 +60,10 @@ fn order_row(out: &mut [u8], done: Listed, row: &[u64], machine: MachineId) -> L
     }
     let end = put_u64(out, done.end, row[0]);
     let end = put_spec(out, end, &spec_from(task_kind(row)));
-    Listed { end, count: done.count + 1 }
+    Listed {
+        end,
+        count: done.count + 1,
+    }
 }
 
 // All tasks that are to run on a machine: 54 bytes at most for each of 2,048.
@@ -130,7 +133,10 @@ fn line_row(out: &mut [u8], done: Listed, row: &[u64], ready: u64, name: &[u8]) 
     let end = put_u32(out, end, version_from(task_kind(row)).0);
     let end = put_u8(out, end, phase_number(phase));
     let end = put_u16(out, end, machine_number(phase));
-    Listed { end, count: done.count + 1 }
+    Listed {
+        end,
+        count: done.count + 1,
+    }
 }
 
 // All tasks of the job of a name: 15 bytes for each of 2,048.

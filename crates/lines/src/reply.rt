@@ -36,7 +36,10 @@ impl Reply {
     pub fn new() -> Self
         ensures { λ r. ⌜ take (r .len) (r .bytes) ≡ [] ⌝ }
     {
-        Reply { bytes: [0; ROOM], len: 0 }
+        Reply {
+            bytes: [0; ROOM],
+            len: 0,
+        }
     }
 
     pub fn bytes(&self) -> &[u8]

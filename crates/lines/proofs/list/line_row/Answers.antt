@@ -13,7 +13,8 @@ pub returns : need.returns
 returns c =
     record {
       lists = line-in (c .args .row .now) (c .args .name .now) (c .args .ready) _ _ _ _ (c .if-not-is-of .ensures tt) (c .version-from .ensures ∙ ap versionFrom (c .task-kind .ensures .is))
-        (c .phase-number .ensures ∙ ap phaseOf (c .phase-from-phase .ensures .phase)) (c .machine-number .ensures ∙ c .phase-from-phase .ensures .machine)
-        (c .put-u64-end .ensures .bytes) (c .put-u32-end .ensures .bytes) (c .put-u8-end .ensures .bytes) (c .put-u16-end .ensures .bytes);
+          (c .phase-number .ensures ∙ ap phaseOf (c .phase-from-phase .ensures .phase)) (c .machine-number .ensures ∙ c .phase-from-phase .ensures .machine)
+          (c .put-u64-end .ensures .bytes) (c .put-u32-end .ensures .bytes) (c .put-u8-end .ensures .bytes) (c .put-u16-end .ensures .bytes);
       room = search needs;
-      few = omega arith }
+      few = omega arith;
+    }

@@ -13,4 +13,5 @@ returns c =
     record {
       lists = λ ready. order-in (c .args .row .now) (c .args .machine .0) ready _ _ (c .if-not-runs-on .ensures tt) (c .spec-from .ensures ∙ ap specFrom (c .task-kind .ensures .is)) (c .put-u64-end .ensures .bytes) (c .put-spec-end .ensures .bytes);
       room = search needs;
-      few = omega arith }
+      few = omega arith;
+    }

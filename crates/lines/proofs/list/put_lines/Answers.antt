@@ -8,4 +8,5 @@ returns c =
     record {
       bytes = lists-front (omega (arith, c .pre .room)) (c .line-rows-listed .ensures .lists) (c .put-u16 .ensures .bytes) (c .put-u16 .ensures .end);
       room = omega (arith, c .line-rows-listed .ensures .room);
-      long = λ h. long-names-none (c .args .name .now) h (c .args .home .now) (c .args .live .now) }
+      long = λ h. long-names-none (c .args .name .now) h (c .args .home .now) (c .args .live .now);
+    }

@@ -6,4 +6,5 @@ pub returns : need.returns
 returns c =
     record {
       bytes = λ live. lists-front (omega (arith, c .pre .room)) (c .order-rows-listed .ensures .lists live) (c .put-u16 .ensures .bytes) (c .put-u16 .ensures .end);
-      room = omega (arith, c .order-rows-listed .ensures .room) }
+      room = omega (arith, c .order-rows-listed .ensures .room);
+    }

@@ -14,20 +14,23 @@ pub returns-in-TurnedAway : need.returns-in-TurnedAway
 returns-in-TurnedAway c =
     record {
       bytes = λ time.
-        puts-as (ap (λ (a : Answer). answerBytes (answerOf a (stateOf (c .args .home .now) (c .args .live .now) time))) (sym (c .in-TurnedAway .is)))
-        (puts-then (c .put-u8-end .ensures .bytes) (puts-as (ap (λ (n : ℕ). n ∷ []) (c .number .ensures)) (c .put-u8 .ensures .bytes)));
-      room = search needs }
+          puts-as (ap (λ (a : Answer). answerBytes (answerOf a (stateOf (c .args .home .now) (c .args .live .now) time))) (sym (c .in-TurnedAway .is)))
+          (puts-then (c .put-u8-end .ensures .bytes) (puts-as (ap (λ (n : ℕ). n ∷ []) (c .number .ensures)) (c .put-u8 .ensures .bytes)));
+      room = search needs;
+    }
 
 pub returns-in-Run : need.returns-in-Run
 returns-in-Run c =
     record {
       bytes = λ time. puts-as (ap (λ (a : Answer). answerBytes (answerOf a (stateOf (c .args .home .now) (c .args .live .now) time))) (sym (c .in-Run .is))) (c .put-run .ensures .bytes (c .args .live .now));
-      room = c .put-run .ensures .room }
+      room = c .put-run .ensures .room;
+    }
 
 pub returns-in-Lines : need.returns-in-Lines
 returns-in-Lines c =
     record {
       bytes = λ time.
-        puts-as (ap (λ (a : Answer). answerBytes (answerOf a (stateOf (c .args .home .now) (c .args .live .now) time))) (sym (c .in-Lines .is)))
-        (puts-then (c .put-u8-end-in-Lines .ensures .bytes) (c .put-lines .ensures .bytes));
-      room = search needs }
+          puts-as (ap (λ (a : Answer). answerBytes (answerOf a (stateOf (c .args .home .now) (c .args .live .now) time))) (sym (c .in-Lines .is)))
+          (puts-then (c .put-u8-end-in-Lines .ensures .bytes) (c .put-lines .ensures .bytes));
+      room = search needs;
+    }

@@ -7,4 +7,5 @@ pub returns : need.returns
 returns c =
     record {
       bytes = λ live. puts-then (c .put-u8-end .ensures .bytes) (puts-then (c .put-u16-end .ensures .bytes) (puts-then (c .put-u64-end .ensures .bytes) (puts-then (c .put-u64-end-2 .ensures .bytes) (c .put-orders .ensures .bytes live))));
-      room = search needs }
+      room = search needs;
+    }

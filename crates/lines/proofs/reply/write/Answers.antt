@@ -16,5 +16,5 @@ sub-end c = omega (arith, c .put-answer-end .ensures .bytes 0 .end)
 pub returns : need.returns
 returns c =
     let f : (time : ℕ) → Puts (framed (c .args .tag) (answerBytes (answerOf (c .args .answer .now) (stateOf (c .args .home .now) (c .args .live .now) time)))) (c .args .reply .now .bytes) (c .put-u32-2 .last .out) 0 (c .put-answer-end .result) =
-      λ time. puts-framed (c .args .tag) _ (search needs) (c .put-answer-end .ensures .bytes time) (c .put-u32 .ensures .bytes) (c .put-u32 .ensures .end) (c .put-u32-2 .ensures .bytes) (c .put-u32-2 .ensures .end) refl in
+    λ time. puts-framed (c .args .tag) _ (search needs) (c .put-answer-end .ensures .bytes time) (c .put-u32 .ensures .bytes) (c .put-u32 .ensures .end) (c .put-u32-2 .ensures .bytes) (c .put-u32-2 .ensures .end) refl in
     record { bytes = λ time. f time .bytes; fits = λ time. let e = f time .end in omega (arith, e, c .put-answer-end .ensures .room) }

@@ -20,4 +20,5 @@ pub returns : need.returns
 returns c =
     record {
       bytes = puts-as (ap tagBytes (take-all (c .loop-tag .tag-index) (c .args .tags .now) (c .loop-tag-test .left))) (c .loop-tag .inv .0);
-      end = omega (arith, c .loop-tag .inv .1) }
+      end = omega (arith, c .loop-tag .inv .1);
+    }
