@@ -5,3 +5,6 @@ pub mod Standing
 pub mod Reading
 pub mod Hexing
 pub mod Parsing
+pub mod Writing
+pub mod Naming
+pub mod Listing

@@ -7,3 +7,5 @@ pub mod Resume
 pub mod Digits
 pub mod Ends
 pub mod Reads
+pub mod Puts
+pub mod Replied

@@ -2,8 +2,12 @@
 pub mod answer;
 pub mod hex;
 pub mod line;
+pub mod list;
+pub mod named;
 pub mod read;
 pub mod reader;
+pub mod reply;
 pub mod stage;
 pub mod step;
 pub mod theorems;
+pub mod write;
