@@ -7,8 +7,8 @@ use Prim.Native.Nat.{ℕ, _+_, _<_, _≤_}
 use native.Mathlib.Omega.{arith}
 use Rattle.std.proofs.shelf.Lists.{append-nil}
 use Rattle.model.specs.State as s
-use Rattle.model.proofs.Lists.{In, in-end}
-use Rattle.model.proofs.Tasks.{Rising, rising-end}
+use Rattle.model.proofs.Lists.Members.{In, in-end}
+use Rattle.model.proofs.Tasks.ByNumber.{Rising, rising-end}
 use Rattle.jobs.specs.Rows.{at, span}
 use Rattle.jobs.specs.Tables.{taskAt, taskRow, taskRows, taskFrom, stateOf}
 use Rattle.jobs.proofs.Spans.{span-none, span-more}
