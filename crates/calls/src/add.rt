@@ -1,12 +1,12 @@
 // Adding a machine.
 ghost use mathlib.Core.Path.{_≡_};
-ghost use Prim.Native.Nat.{ℕ, _/_, _≤_};
-ghost use lib.ListN.{length, take};
+ghost use Prim.Native.Nat.{ℕ, _/_, _<_, _≤_};
+ghost use lib.ListN.{getD, length, take};
 ghost use Rattle.model.proofs.Settles.{Fine};
 ghost use Rattle.jobs.specs.Layout.{homeWords, liveWords};
 ghost use Rattle.jobs.specs.Tables.{stateOf};
 ghost use Rattle.calls.specs.Acted.{Acted};
-ghost use Rattle.calls.specs.Adding.{tooMuch};
+ghost use Rattle.calls.specs.Adding.{Put, tooMuch};
 ghost use Rattle.calls.specs.Meaning.{callOf, tagsOf};
 ghost use Rattle.calls.specs.declared.call.Call.the-variants.{Add};
 use crate::answer::Answer;
@@ -34,8 +34,29 @@ fn machine(added: Added) -> Machine
     ensures cpu { λ r. ⌜ r .cpu ≡ added .entry .cpu ⌝ }
     ensures mem { λ r. ⌜ r .mem ≡ added .entry .mem ⌝ }
     ensures tags { λ r. ⌜ take (r .count) (r .tags) ≡ tagsOf (now (added .entry .tags)) ⌝ }
+    ensures small { λ r. ⌜ ((k : ℕ) → getD (r .tags) k 0 < 4294967296) ⌝ }
+    ensures short { λ r. ⌜ r .num .0 < 65536 ⌝ }
 {
     let mut tags = [0; 16];
     put_tags(&mut tags, added.tags);
     Machine { num: added.machine, cpu: added.cpu, mem: added.mem, count: (added.tags.len() / 4) as u8, tags }
+}
+
+// The machine comes, behind the others; or why not.
+fn put(home: &mut [u64], live: &mut [u64], added: Added) -> Result<(), Refusal>
+    requires words { ⌜ homeWords ≤ length (now home) ⌝ }
+    requires flags { ⌜ liveWords ≤ length (now live) ⌝ }
+    ensures put { λ r. ⌜ Put (added .entry) (now (home .entry)) (now (live .entry)) (now (home .exit)) (now (live .exit)) r ⌝ }
+    ensures long { λ _. ⌜ (length (now (home .exit)) ≡ length (now (home .entry))) × (length (now (live .exit)) ≡ length (now (live .entry))) ⌝ }
+{
+    if find_machine(home, added.machine).is_some() {
+        return Err(Refusal::Present);
+    }
+    if too_much(added) {
+        return Err(Refusal::Malformed);
+    }
+    if !add_machine(home, live, machine(added)) {
+        return Err(Refusal::Full);
+    }
+    Ok(())
 }
