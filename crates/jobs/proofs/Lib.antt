@@ -5,3 +5,5 @@ pub mod Frames
 pub mod TaskRows
 pub mod MoveLaws
 pub mod Finds
+pub mod Back
+pub mod HoleLaws

@@ -1,6 +1,7 @@
 -- What the types of the code stand for.
 -- Assumes nothing.
-use mathlib.Core.List.{List}
+use mathlib.Core.Bool.{cond}
+use mathlib.Core.List.{List, [], _∷_, _++_}
 use Prim.Native.Nat.{ℕ}
 use lib.ListN.{take}
 use Rattle.model.specs.State as s
@@ -8,6 +9,8 @@ use Rattle.jobs.specs.declared.name.Name.{Name}
 use Rattle.jobs.specs.declared.spec.Spec.{Spec}
 use Rattle.jobs.specs.declared.phase.Place.{Place}
 use Rattle.jobs.specs.declared.job.Job.{Job}
+use Rattle.jobs.specs.declared.machine.Machine.{Machine}
+use Rattle.jobs.specs.Rows.{at}
 use Rattle.jobs.specs.declared.phase.Phase.{Phase}
 use Rattle.jobs.specs.declared.phase.Phase.the-variants.{Waiting, Told, Ready, Ending}
 use Rattle.jobs.specs.Tables.{bytesOf}
@@ -39,3 +42,18 @@ lifeOf (Ending p) = p .life .0
 
 abbrev pub jobOf : Job → s.Job
 jobOf j = record { name = nameOf (j .name); version = j .version .0; spec = specOf (j .spec); count = j .count; least = j .least; most = j .most }
+
+-- THE WORDS THAT VALUES ARE WRITTEN AS
+
+abbrev pub kindWords : Job → List ℕ
+kindWords j =
+    j .version .0 ∷ j .spec .image ∷ j .spec .cpu ∷ j .spec .mem ∷ cond (j .spec .apart) 1 0 ∷ j .spec .count ∷
+    at (j .spec .tags) 0 ∷ at (j .spec .tags) 1 ∷ at (j .spec .tags) 2 ∷ at (j .spec .tags) 3 ∷ at (j .spec .tags) 4 ∷ at (j .spec .tags) 5 ∷ at (j .spec .tags) 6 ∷ at (j .spec .tags) 7 ∷
+    j .name .len ∷ at (j .name .words) 0 ∷ at (j .name .words) 1 ∷ at (j .name .words) 2 ∷ at (j .name .words) 3 ∷ at (j .name .words) 4 ∷ at (j .name .words) 5 ∷ at (j .name .words) 6 ∷ at (j .name .words) 7 ∷ []
+
+abbrev pub jobWords : Job → List ℕ
+jobWords j = kindWords j ++ (j .count ∷ j .least ∷ j .most ∷ [])
+
+-- a machine that is new is open, and nothing was heard of it
+abbrev pub machineWords : Machine → List ℕ
+machineWords m = 1 ∷ m .num .0 ∷ m .cpu ∷ m .mem ∷ 1 ∷ 0 ∷ 0 ∷ m .count ∷ m .tags

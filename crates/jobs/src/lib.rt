@@ -13,3 +13,6 @@ pub mod moves;
 pub mod job;
 pub mod kinds;
 pub mod finding;
+pub mod machine;
+pub mod encoding;
+pub mod closing;
