@@ -6,3 +6,10 @@ pub mod Doubting
 pub mod Parts
 pub mod Rowed
 pub mod MachineRows
+pub mod TagBytes
+pub mod Naming
+pub mod Ranges
+pub mod MostSums
+pub mod KindTags
+pub mod JobWords
+pub mod JobRows

@@ -3,3 +3,7 @@ pub mod Seen
 pub mod Heard
 pub mod Answers
 pub mod Machines
+pub mod Wanted
+pub mod Versions
+pub mod Dense
+pub mod Setting

@@ -2,7 +2,13 @@
 pub mod answer;
 pub mod call;
 pub mod heard;
+pub mod jobs_in;
 pub mod machines;
+pub mod mosts;
+pub mod names;
 pub mod outcome;
 pub mod seen;
 pub mod sweeps;
+pub mod tags;
+pub mod versions;
+pub mod wanted;
