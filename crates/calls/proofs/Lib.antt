@@ -11,5 +11,5 @@ pub mod Naming
 pub mod Ranges
 pub mod MostSums
 pub mod KindTags
-pub mod JobWords
 pub mod JobRows
+pub mod Sets

@@ -9,28 +9,15 @@ ghost use Rattle.model.specs.State as s;
 ghost use Rattle.model.specs.State.{isJob};
 ghost use Rattle.model.proofs.Lists.Apart.{Once};
 ghost use Rattle.jobs.specs.Layout.{homeWords};
-ghost use Rattle.jobs.specs.Tables.{jobAt, jobFrom, jobRows, jobsOf};
+ghost use Rattle.jobs.specs.Tables.{jobAt, jobRows, jobsOf};
 ghost use Rattle.jobs.specs.Values.{jobOf};
 ghost use Rattle.calls.specs.Setting.{JobPut, JobsNow};
+use jobs::encoding::encode_job;
 use jobs::job::Job;
 use jobs::layout::JOB_BASE;
 use jobs::layout::JOB_ROWS;
 use jobs::layout::JOB_WIDTH;
 use jobs::rows::job_rows;
-
-// The words of a job's row.
-fn job_words(job: Job) -> [u64; 26]
-    ensures { λ r. ⌜ jobFrom r ≡ jobOf job ⌝ }
-{
-    let t = job.spec.tags;
-    let w = job.name.words;
-    [
-        job.version.0 as u64, job.spec.image as u64, job.spec.cpu as u64, job.spec.mem as u64, job.spec.apart as u64, job.spec.count as u64,
-        t[0] as u64, t[1] as u64, t[2] as u64, t[3] as u64, t[4] as u64, t[5] as u64, t[6] as u64, t[7] as u64,
-        job.name.len as u64, w[0], w[1], w[2], w[3], w[4], w[5], w[6], w[7],
-        job.count as u64, job.least as u64, job.most as u64,
-    ]
-}
 
 // Writes row `i`.
 fn put_row(home: &mut [u64], i: usize, words: [u64; 26])
@@ -49,7 +36,7 @@ pub fn append_job(home: &mut [u64], job: Job)
     ensures { λ _. ⌜ JobsNow (jobsOf (now (home .entry)) ++ (jobOf job ∷ [])) (now (home .entry)) (now (home .exit)) ⌝ }
 {
     let n = job_rows(home);
-    put_row(home, n, job_words(job));
+    put_row(home, n, encode_job(job));
     home[JOB_ROWS] = n as u64 + 1;
 }
 
@@ -60,5 +47,5 @@ pub fn change_job(home: &mut [u64], i: usize, job: Job)
     requires version { ⌜ 0 < job .version .0 ⌝ }
     ensures { λ _. ⌜ ((n : s.Name) (x : s.Job) (g : s.Job → s.Job) → jobAt (now (home .entry)) i ≡ x ∷ [] → isJob n x ≡ true → g x ≡ jobOf job → Once (λ (a b : s.Job). same (a .name) (b .name)) (jobsOf (now (home .entry))) → JobsNow (change (isJob n) g (jobsOf (now (home .entry)))) (now (home .entry)) (now (home .exit))) ⌝ }
 {
-    put_row(home, i, job_words(job));
+    put_row(home, i, encode_job(job));
 }

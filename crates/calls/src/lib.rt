@@ -8,6 +8,7 @@ pub mod mosts;
 pub mod names;
 pub mod outcome;
 pub mod seen;
+pub mod setting;
 pub mod sweeps;
 pub mod tags;
 pub mod versions;

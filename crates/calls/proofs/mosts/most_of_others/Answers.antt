@@ -1,5 +1,5 @@
 use borrow.Author.Needs.{needs}
-use mathlib.Core.Path.{_≡_, sym, ap, _∙_}
+use mathlib.Core.Path.{_≡_, sym, ap, subst, _∙_}
 use mathlib.Core.List.{List}
 use Prim.Native.Nat.{ℕ}
 use native.Mathlib.Omega.{arith}
@@ -21,7 +21,8 @@ pub loop-i-again : need.loop-i-again
 loop-i-again c =
     let n = nameOf (c .args .name .now) in
     let f = c .most-unless-sum .ensures .few in let b = c .loop-i .inv .1 in
-    (sum-more n (jobAt (c .args .home .now)) (c .loop-i .i) (c .loop-i .sum) (c .most-unless-sum .result) (c .loop-i .inv .0) (c .most-unless-sum .ensures .is ∙ ap (λ (r : List ℕ). allMost (others n (jobSlot r))) (c .job-row .ensures .is)), omega arith)
+    let row : c .most-unless-sum .result ≡ allMost (others (nameOf (c .args .name .now)) (jobAt (c .args .home .now) (c .loop-i .i))) = subst (λ (r : List ℕ). c .most-unless-sum .result ≡ allMost (others (nameOf (c .args .name .now)) (jobSlot r))) (c .job-row .ensures .is) (c .most-unless-sum .ensures .is) in
+    (sum-more n (jobAt (c .args .home .now)) (c .loop-i .i) (c .loop-i .sum) (c .most-unless-sum .result) (c .loop-i .inv .0) row, omega arith)
 
 pub returns : need.returns
 returns c =
