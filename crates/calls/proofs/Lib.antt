@@ -11,3 +11,7 @@ pub mod Timed
 pub mod Sounds
 pub mod Keeping
 pub mod TagBytes
+pub mod Naming
+pub mod Ranges
+pub mod KindTags
+pub mod Sets

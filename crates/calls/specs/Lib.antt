@@ -7,3 +7,6 @@ pub mod Reports
 pub mod Times
 pub mod Sound
 pub mod Adding
+pub mod Wanted
+pub mod Versions
+pub mod Setting
