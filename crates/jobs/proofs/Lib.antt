@@ -11,3 +11,4 @@ pub mod TableLaws
 pub mod JobLaws
 pub mod MachineLaws
 pub mod Darkness
+pub mod Packs
