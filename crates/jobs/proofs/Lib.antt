@@ -12,3 +12,4 @@ pub mod JobLaws
 pub mod MachineLaws
 pub mod Darkness
 pub mod Packs
+pub mod FoundLaws
