@@ -80,9 +80,6 @@ module _ (home : List ℕ) (fits : homeWords ≤ length home) where
         rows ∙ sym (ap length (sym all) ∙ q .1),
       )
 
-pub jobs-kept : (home : List ℕ) → JobsNow (jobsOf home) home home
-jobs-kept home = record { state = λ live time. refl; long = refl }
-
 -- one change after another
 pub jobs-then : (home mid home' : List ℕ) (x : s.Job) → JobsNow (jobsOf home) home mid → JobsNow (jobsOf mid ++ x ∷ []) mid home' → JobsNow (jobsOf home ++ x ∷ []) home home'
 jobs-then home mid home' x a b =

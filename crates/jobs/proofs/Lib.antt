@@ -13,3 +13,4 @@ pub mod MachineLaws
 pub mod Darkness
 pub mod Packs
 pub mod FoundLaws
+pub mod SweepLaws

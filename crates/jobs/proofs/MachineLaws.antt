@@ -146,9 +146,6 @@ module _ (home : List ℕ) (fits : homeWords ≤ length home) where
         rows ∙ sym (ap length (sym all) ∙ q .1),
       )
 
-pub machines-kept : (home live : List ℕ) → MachinesNow (machinesOf home live) home live home live
-machines-kept home live = record { state = λ time. refl; long = refl; longLive = refl }
-
 pub machines-then : (home live mid midl home' live' : List ℕ) (x : s.Machine) → MachinesNow (machinesOf home live) home live mid midl → MachinesNow (machinesOf mid midl ++ x ∷ []) mid midl home' live' → MachinesNow (machinesOf home live ++ x ∷ []) home live home' live'
 machines-then home live mid midl home' live' x a b =
     let ms : machinesOf mid midl ≡ machinesOf home live = ap (λ (u : s.State). u .machines) (a .state 0) in

@@ -16,14 +16,35 @@ use Rattle.jobs.proofs.Names.{length-bytes, getD-bytes}
 -- what holds of 0 to 7 holds below 8
 below8 : (P : ℕ → Type 0) → P 0 → P 1 → P 2 → P 3 → P 4 → P 5 → P 6 → P 7 → (q : ℕ) → q < 8 → P q
 below8 P a b c d e f g h q l =
-    elim (cases-eq q 0) [ inl z ↦ subst P (sym z) a | inr n0 ↦
-    elim (cases-eq q 1) [ inl z ↦ subst P (sym z) b | inr n1 ↦
-    elim (cases-eq q 2) [ inl z ↦ subst P (sym z) c | inr n2 ↦
-    elim (cases-eq q 3) [ inl z ↦ subst P (sym z) d | inr n3 ↦
-    elim (cases-eq q 4) [ inl z ↦ subst P (sym z) e | inr n4 ↦
-    elim (cases-eq q 5) [ inl z ↦ subst P (sym z) f | inr n5 ↦
-    elim (cases-eq q 6) [ inl z ↦ subst P (sym z) g | inr n6 ↦
-    subst P (last q l n0 n1 n2 n3 n4 n5 n6) h ] ] ] ] ] ] ]
+    elim (cases-eq q 0) [
+      | inl z ↦ subst P (sym z) a
+      | inr n0 ↦
+          elim (cases-eq q 1) [
+            | inl z ↦ subst P (sym z) b
+            | inr n1 ↦
+                elim (cases-eq q 2) [
+                  | inl z ↦ subst P (sym z) c
+                  | inr n2 ↦
+                      elim (cases-eq q 3) [
+                        | inl z ↦ subst P (sym z) d
+                        | inr n3 ↦
+                            elim (cases-eq q 4) [
+                              | inl z ↦ subst P (sym z) e
+                              | inr n4 ↦
+                                  elim (cases-eq q 5) [
+                                    | inl z ↦ subst P (sym z) f
+                                    | inr n5 ↦
+                                        elim (cases-eq q 6) [
+                                          | inl z ↦ subst P (sym z) g
+                                          | inr n6 ↦
+                                              subst P (last q l n0 n1 n2 n3 n4 n5 n6) h
+                                        ]
+                                  ]
+                            ]
+                      ]
+                ]
+          ]
+    ]
   where
     last : (q : ℕ) → q < 8 → (q ≡ 0 → ⊥) → (q ≡ 1 → ⊥) → (q ≡ 2 → ⊥) → (q ≡ 3 → ⊥) → (q ≡ 4 → ⊥) → (q ≡ 5 → ⊥) → (q ≡ 6 → ⊥) → 7 ≡ q
     last q l n0 n1 n2 n3 n4 n5 n6 = omega arith

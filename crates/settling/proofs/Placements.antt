@@ -27,7 +27,7 @@ use Rattle.settling.specs.Place.{waits, PlacedRow}
 use Rattle.settling.proofs.Scans.{keep-none, keep-one, keep-append}
 use Rattle.settling.proofs.Middles.{place-mid}
 use Rattle.settling.proofs.Tallies.{row-few}
-use Rattle.settling.proofs.Growth.{now-state}
+use Rattle.jobs.proofs.SweepLaws.{now-state}
 
 all-none : (time : ℕ) (ms : List s.Machine) (ts : List s.Task) → placeAll time ms [] ts ≡ ts
 unfolding placeAll

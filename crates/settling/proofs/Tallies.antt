@@ -130,23 +130,7 @@ tallied-few j st f i y h k =
 
 -- THE WAYS THROUGH A STEP
 
-ending-not-ready : (p : s.Phase) → isEnding p ≡ true → isReady p ≡ false
-ending-not-ready s.Waiting e = refl
-ending-not-ready s.Told e = refl
-ending-not-ready s.Ready e = sym e
-ending-not-ready s.Ending e = refl
-
 module _ (j : s.Job) (st : s.State) (i : ℕ) (x : s.Task) (y : Tally) where
-  pub step-other : isMine j st x ≡ false → record { total = y .total + 1; all = y .all; new = y .new; ready = y .ready; old = y .old; newer = y .newer } ≡ stepped j st i x y
-  step-other e =
-      let a : y .all ≡ y .all + 0 = omega arith in let b : y .new ≡ y .new + 0 = omega arith in let c : y .ready ≡ y .ready + 0 = omega arith in
-      rw e (λ k. record { total = y .total + 1; all = a k; new = b k; ready = c k; old = y .old; newer = y .newer })
-
-  pub step-ending : isMine j st x ≡ true → isEnding (x .phase) ≡ true → record { total = y .total + 1; all = y .all + 1; new = y .new; ready = y .ready; old = y .old; newer = y .newer } ≡ stepped j st i x y
-  step-ending e f =
-      let b : y .new ≡ y .new + 0 = omega arith in let c : y .ready ≡ y .ready + 0 = omega arith in
-      rw (e, f, ending-not-ready (x .phase) f) (λ k. record { total = y .total + 1; all = y .all + 1; new = b k; ready = c k; old = y .old; newer = y .newer })
-
   pub step-new : (u v : Bool) → isMine j st x ≡ true → isEnding (x .phase) ≡ false → eqb (x .version) (j .version) ≡ true → u ≡ isReady (x .phase) → v ≡ isSpare j st x →
       record { total = y .total + 1; all = y .all + 1; new = y .new + 1; ready = y .ready + cond u 1 0; old = y .old; newer = record { idle = cond v (Some i) (y .newer .idle); busy = cond u (Some i) (y .newer .busy) } } ≡ stepped j st i x y
   step-new u v e f g p q = rw (e, f, g, p, q)
@@ -158,9 +142,6 @@ module _ (j : s.Job) (st : s.State) (i : ℕ) (x : s.Task) (y : Tally) where
 -- A TASK'S ROW AND ITS KIND, as they are read
 
 module _ (home live : List ℕ) (i : ℕ) (row kind : List ℕ) (r : row ≡ taskRow home i) (k : kind ≡ drop 4 row) where
-  abbrev pub taskIn : s.Task
-  taskIn = taskFrom (taskRow home i) (at live (256 + i))
-
   kind-is : kind ≡ drop 4 (taskRow home i)
   kind-is = k ∙ ap (drop 4) r
 
@@ -169,9 +150,6 @@ module _ (home live : List ℕ) (i : ℕ) (row kind : List ℕ) (r : row ≡ tas
 
   pub version-is : versionFrom kind ≡ versionFrom (drop 4 (taskRow home i))
   version-is = ap versionFrom kind-is
-
-  pub spec-is : specFrom kind ≡ specFrom (drop 4 (taskRow home i))
-  spec-is = ap specFrom kind-is
 
   pub phase-is : phaseFrom (at row 1) (at live (256 + i)) ≡ phaseFrom (at (taskRow home i) 1) (at live (256 + i))
   phase-is = ap (λ (x : List ℕ). phaseFrom (at x 1) (at live (256 + i))) r
@@ -198,9 +176,6 @@ byte-is false = refl
 module _ (home live : List ℕ) (time i : ℕ) (row kind : List ℕ) (r : row ≡ taskRow home i) (k : kind ≡ drop 4 row) (j : s.Job) (y : Tally)
     (mine' : Bool) (m : mine' ≡ same (j .name) (nameFrom kind)) (yes' : mine' ≡ true) (p : s.Phase) (a : ℕ) (ph : p ≡ phaseFrom (at row 1) (at live (256 + i))) (mc : a ≡ cond (eqb (at row 1) 0) 0 (at row 2 % 65536))
     (end : isEnding p ≡ false) (full' : at row 0 ≡ 0 → ⊥) (up idle : Bool) (u : up ≡ isReady p) (v : idle ≡ (not (isReady p) && (isWaiting p || some (isPresent time a) (machinesOf home live)))) where
-  x : s.Task
-  x = taskFrom (taskRow home i) (at live (256 + i))
-
   ours : same (j .name) (nameFrom (drop 4 (taskRow home i))) ≡ true
   ours = ap (same (j .name)) (sym (job-is home live i row kind r k)) ∙ sym m ∙ yes'
 
