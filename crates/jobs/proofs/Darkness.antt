@@ -22,9 +22,10 @@ use Rattle.jobs.proofs.Finds.{slot-hole, slot-full}
 
 unready-from : (r : List ℕ) (v : ℕ) → taskFrom r 0 ≡ unready (taskFrom r v)
 unready-from r v =
-    elim (cases-bool (eqb (at r 1) 0))
-    [ inl a ↦ rw a
-    | inr a ↦ elim (cases-bool (eqb (at r 1) 1)) [ inl b ↦ elim (cases-bool (eqb v 0)) [ inl c ↦ rw (a, b, c) | inr c ↦ rw (a, b, c) ] | inr b ↦ rw (a, b) ] ]
+    elim (cases-bool (eqb (at r 1) 0)) [
+      | inl a ↦ rw a
+      | inr a ↦ elim (cases-bool (eqb (at r 1) 1)) [ inl b ↦ elim (cases-bool (eqb v 0)) [ inl c ↦ rw (a, b, c) | inr c ↦ rw (a, b, c) ] | inr b ↦ rw (a, b) ]
+    ]
 
 task-dark : (r : List ℕ) (v : ℕ) → taskSlot r 0 ≡ map unready (taskSlot r v)
 task-dark r v = elim (cases-bool (eqb (at r 0) 0)) [ inl t ↦ rw t | inr n ↦ rw n (ap (λ (x : s.Task). x ∷ []) (unready-from r v)) ]

@@ -64,7 +64,7 @@ module _ (home : List ℕ) (fits : homeWords ≤ length home) where
       let rows : jobRows (set mid 1 (n + 1)) ≡ n + 1 = ap (λ (k : ℕ). min k 256) one ∙ omega arith in
       let new' : jobAt (set mid 1 (n + 1)) n ≡ x ∷ [] = rows-word mid (n + 1) n long w ∙ ap jobSlot here ∙ slot-full (at r 0) (jobFrom r) ne ∙ ap (λ (y : s.Job). y ∷ []) e in
       let list : jobsOf (set mid 1 (n + 1)) ≡ jobsOf home ++ x ∷ [] =
-        ap (span (jobAt (set mid 1 (n + 1))) 0) rows ∙ push-list (jobAt home) (jobAt (set mid 1 (n + 1))) n (x ∷ []) new' (λ j h. rows-word mid (n + 1) j long (omega arith) ∙ other-job mid n j w o (omega arith) (λ q. omega arith)) ∙ ap (λ (k : ℕ). span (jobAt home) 0 k ++ x ∷ []) is in
+      ap (span (jobAt (set mid 1 (n + 1))) 0) rows ∙ push-list (jobAt home) (jobAt (set mid 1 (n + 1))) n (x ∷ []) new' (λ j h. rows-word mid (n + 1) j long (omega arith) ∙ other-job mid n j w o (omega arith) (λ q. omega arith)) ∙ ap (λ (k : ℕ). span (jobAt home) 0 k ++ x ∷ []) is in
       record { state = jobs-state home (set mid 1 (n + 1)) fits a (jobsOf home ++ x ∷ []) list; long = a .long }
 
   pub jobs-closed : (fs mid fs' : List ℕ) (n to : ℕ) → n ≡ jobRows home → Closed 8 26 n home fs mid fs' to → JobsNow (jobsOf home) home (set mid 1 to) × (jobRows (set mid 1 to) ≡ length (jobsOf home))
@@ -75,12 +75,10 @@ module _ (home : List ℕ) (fits : homeWords ≤ length home) where
       let one : at (set mid 1 to) 1 ≡ to = getD-set-same mid 1 to 0 (omega arith) in
       let rows : jobRows (set mid 1 to) ≡ to = ap (λ (k : ℕ). min k 256) one ∙ omega arith in
       let q = closed-list (λ (r : List ℕ) (v : ℕ). jobFrom r) 8 26 home fs mid fs' (jobAt home) (jobAt (set mid 1 to)) n to c (λ i h. refl) (λ i h. rows-word mid to i long (omega arith)) in
-      let all : span (jobAt home) 0 n ≡ jobsOf home = ap (span (jobAt home) 0) is in
-      (record { state = jobs-state home (set mid 1 to) fits a (jobsOf home) (ap (span (jobAt (set mid 1 to)) 0) rows ∙ q .0 ∙ all); long = a .long },
-       rows ∙ sym (ap length (sym all) ∙ q .1))
-
-pub jobs-kept : (home : List ℕ) → JobsNow (jobsOf home) home home
-jobs-kept home = record { state = λ live time. refl; long = refl }
+      let all : span (jobAt home) 0 n ≡ jobsOf home = ap (span (jobAt home) 0) is in (
+        record { state = jobs-state home (set mid 1 to) fits a (jobsOf home) (ap (span (jobAt (set mid 1 to)) 0) rows ∙ q .0 ∙ all); long = a .long },
+        rows ∙ sym (ap length (sym all) ∙ q .1),
+      )
 
 -- one change after another
 pub jobs-then : (home mid home' : List ℕ) (x : s.Job) → JobsNow (jobsOf home) home mid → JobsNow (jobsOf mid ++ x ∷ []) mid home' → JobsNow (jobsOf home ++ x ∷ []) home home'
@@ -88,4 +86,5 @@ jobs-then home mid home' x a b =
     let js : jobsOf mid ≡ jobsOf home = ap (λ (u : s.State). u .jobs) (a .state [] 0) in
     record {
       state = λ live time. b .state live time ∙ ap (λ (zs : List s.Job). withJobs (zs ++ x ∷ []) (stateOf mid live time)) js ∙ ap (withJobs (jobsOf home ++ x ∷ [])) (a .state live time);
-      long = b .long ∙ a .long }
+      long = b .long ∙ a .long;
+    }

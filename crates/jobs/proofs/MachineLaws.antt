@@ -74,10 +74,11 @@ module _ (home : List ℕ) (fits : homeWords ≤ length home) where
       let rows : machineRows home' ≡ machineRows home = ap (λ (n : ℕ). min n 256) (o .below 2 (omega arith)) in
       record {
         state = machines-state home home' fits live live' a (λ k h. u .above k (omega arith)) (machinesWith home live i xs)
-          (ap (span (machineAt home' live') 0) rows ∙ put-list (machineAt home live) (machineAt home' live') (machineRows home) i xs w e
+            (ap (span (machineAt home' live') 0) rows ∙ put-list (machineAt home live) (machineAt home' live') (machineRows home) i xs w e
             (λ j h ne. ap (λ (r : List ℕ). machineSlot r (at live' j)) (other-row home' i j (omega arith) o (omega arith) ne) ∙ ap (machineSlot (machineRow home j)) (heard j ne)));
         long = o .long;
-        longLive = u .long }
+        longLive = u .long;
+      }
     where
       past : (j : ℕ) → i ≤ j → (j ≡ i → ⊥) → i < j
       past j g n = omega arith
@@ -99,7 +100,7 @@ module _ (home : List ℕ) (fits : homeWords ≤ length home) where
       let z = long-row i (omega arith) in
       puts live _ (set live i t) i _ w (only-then _ _ _ _ _ (word 6 n i _ (omega arith)) (word 5 l i home (omega arith))) (set-only i t live)
       (ap (λ (r : List ℕ). machineSlot r (at (set live i t) i)) (set-row 24 (6664 + i * 24) 6 n _ ∙ ap (λ (r : List ℕ). set r 6 n) (set-row 24 (6664 + i * 24) 5 l home)) ∙
-       ap (machineSlot (set (set (machineRow home i) 5 l) 6 n)) (getD-set-same live i t 0 q) ∙ hear-slot (machineRow home i) (at live i) l n t (omega arith))
+      ap (machineSlot (set (set (machineRow home i) 5 l) 6 n)) (getD-set-same live i t 0 q) ∙ hear-slot (machineRow home i) (at live i) l n t (omega arith))
 
   pub machine-gone : (i : ℕ) → i < machineRows home → (live : List ℕ) → MachinesNow (machinesWith home live i []) home live (set home (6664 + i * 24) 0) live
   machine-gone i w live =
@@ -138,14 +139,12 @@ module _ (home : List ℕ) (fits : homeWords ≤ length home) where
       let rows : machineRows h' ≡ to = ap (λ (k : ℕ). min k 256) two ∙ omega arith in
       let zero' : (i : ℕ) → 0 + i ≡ i = λ i. omega arith in
       let q = closed-list machineFrom 6664 24 home (take 256 live) mid fs' (machineAt home live) (machineAt h' l') n to c
-        (λ i h. ap (machineSlot (machineRow home i)) (sym (part-at 0 256 live i (omega arith) ∙ ap (at live) (zero' i))))
-        (λ i h. ap (λ (r : List ℕ). machineSlot r (at l' i)) (rows-word mid to i long (omega arith)) ∙ ap (machineSlot (machineRow mid i)) (ap (at l') (sym (zero' i)) ∙ put-at 0 256 live fs' i (omega arith) (omega arith) lf)) in
-      let all : span (machineAt home live) 0 n ≡ machinesOf home live = ap (span (machineAt home live) 0) is in
-      (record { state = machines-state home h' fits live l' a (λ k h. u .above k (omega arith)) (machinesOf home live) (ap (span (machineAt h' l') 0) rows ∙ q .0 ∙ all); long = a .long; longLive = u .long },
-       rows ∙ sym (ap length (sym all) ∙ q .1))
-
-pub machines-kept : (home live : List ℕ) → MachinesNow (machinesOf home live) home live home live
-machines-kept home live = record { state = λ time. refl; long = refl; longLive = refl }
+      (λ i h. ap (machineSlot (machineRow home i)) (sym (part-at 0 256 live i (omega arith) ∙ ap (at live) (zero' i))))
+      (λ i h. ap (λ (r : List ℕ). machineSlot r (at l' i)) (rows-word mid to i long (omega arith)) ∙ ap (machineSlot (machineRow mid i)) (ap (at l') (sym (zero' i)) ∙ put-at 0 256 live fs' i (omega arith) (omega arith) lf)) in
+      let all : span (machineAt home live) 0 n ≡ machinesOf home live = ap (span (machineAt home live) 0) is in (
+        record { state = machines-state home h' fits live l' a (λ k h. u .above k (omega arith)) (machinesOf home live) (ap (span (machineAt h' l') 0) rows ∙ q .0 ∙ all); long = a .long; longLive = u .long },
+        rows ∙ sym (ap length (sym all) ∙ q .1),
+      )
 
 pub machines-then : (home live mid midl home' live' : List ℕ) (x : s.Machine) → MachinesNow (machinesOf home live) home live mid midl → MachinesNow (machinesOf mid midl ++ x ∷ []) mid midl home' live' → MachinesNow (machinesOf home live ++ x ∷ []) home live home' live'
 machines-then home live mid midl home' live' x a b =
@@ -153,4 +152,5 @@ machines-then home live mid midl home' live' x a b =
     record {
       state = λ time. b .state time ∙ ap (λ (zs : List s.Machine). withMachines (zs ++ x ∷ []) (stateOf mid midl time)) ms ∙ ap (withMachines (machinesOf home live ++ x ∷ [])) (a .state time);
       long = b .long ∙ a .long;
-      longLive = b .longLive ∙ a .longLive }
+      longLive = b .longLive ∙ a .longLive;
+    }

@@ -27,8 +27,7 @@ low-word k v ws i h fits w = only-row k (k + 1) (12808 + i * 27) 27 (set ws k v)
 -- A NEW TASK
 
 module _ (home live mid : List ℕ) (j n : ℕ) (fits : homeWords ≤ length home) (flags : liveWords ≤ length live) (free : n < 2048) (is : n ≡ taskRows home)
-  (here : taskRow mid n ≡ (at home 0 + 1) ∷ 0 ∷ 0 ∷ 0 ∷ take 23 (jobRow home j)) (only : Only (12808 + n * 27) (12808 + n * 27 + 27) mid home) where
-
+    (here : taskRow mid n ≡ (at home 0 + 1) ∷ 0 ∷ 0 ∷ 0 ∷ take 23 (jobRow home j)) (only : Only (12808 + n * 27) (12808 + n * 27 + 27) mid home) where
   abbrev home' : List ℕ
   home' = set (set mid 0 (at home 0 + 1)) 3 (n + 1)
 
@@ -71,18 +70,20 @@ module _ (home live mid : List ℕ) (j n : ℕ) (fits : homeWords ≤ length hom
 
   pub adds-frame : TasksOnly home live (set (set mid 0 (at home 0 + 1)) 3 (n + 1)) (set live (256 + n) 0)
   adds-frame = record {
-      long = set-only 3 (n + 1) (set mid 0 (at home 0 + 1)) .long ∙ long ∙ only .long;
-      longLive = set-only (256 + n) 0 live .long;
-      words = λ k h a b. getD-set-other (set mid 0 (at home 0 + 1)) 3 k (n + 1) 0 b ∙ getD-set-other mid 0 k (at home 0 + 1) 0 a ∙ only .below k (omega arith);
-      heard = λ k h. getD-set-other live (256 + n) k 0 0 (λ e. omega arith) }
+    long = set-only 3 (n + 1) (set mid 0 (at home 0 + 1)) .long ∙ long ∙ only .long;
+    longLive = set-only (256 + n) 0 live .long;
+    words = λ k h a b. getD-set-other (set mid 0 (at home 0 + 1)) 3 k (n + 1) 0 b ∙ getD-set-other mid 0 k (at home 0 + 1) 0 a ∙ only .below k (omega arith);
+    heard = λ k h. getD-set-other live (256 + n) k 0 0 (λ e. omega arith);
+  }
 
   pub adds : (time : ℕ) → stateOf (set (set mid 0 (at home 0 + 1)) 3 (n + 1)) (set live (256 + n) 0) time ≡ more (jobFrom (jobRow home j)) (stateOf home live time)
   adds time = λ k. record {
-      now = time;
-      nextId = ap (λ (x : ℕ). x + 1) word-0 k;
-      machines = machines-same home live home' live' fits adds-frame k;
-      jobs = jobs-same home live home' live' fits adds-frame k;
-      tasks = tasks-now k }
+    now = time;
+    nextId = ap (λ (x : ℕ). x + 1) word-0 k;
+    machines = machines-same home live home' live' fits adds-frame k;
+    jobs = jobs-same home live home' live' fits adds-frame k;
+    tasks = tasks-now k;
+  }
 
 -- CLOSING HOLES
 
@@ -102,10 +103,11 @@ module _ {X : Type 0} (g : List ℕ → ℕ → X) (b w : ℕ) where
 
   -- closing leaves the list
   pub closed-list : (ws fs ws' fs' : List ℕ) (h h' : ℕ → List X) (n to : ℕ) → Closed b w n ws fs ws' fs' to →
-    ((i : ℕ) → i < n → h i ≡ cond (eqb (at (rowAt b w ws i) 0) 0) [] (g (rowAt b w ws i) (at fs i) ∷ [])) → ((i : ℕ) → i < to → h' i ≡ cond (eqb (at (rowAt b w ws' i) 0) 0) [] (g (rowAt b w ws' i) (at fs' i) ∷ [])) → (span h' 0 to ≡ span h 0 n) × (length (span h 0 n) ≡ to)
-  closed-list ws fs ws' fs' h h' n to c e e' =
-      (decoded ws' fs' h' to e' ∙ ap (map (λ (x : Entry). g (x .row) (x .flag))) (c .list) ∙ sym (decoded ws fs h n e),
-       ap length (decoded ws fs h n e) ∙ length-map (span (entryAt b w ws fs) 0 n) (λ (x : Entry). g (x .row) (x .flag)) ∙ c .count)
+      ((i : ℕ) → i < n → h i ≡ cond (eqb (at (rowAt b w ws i) 0) 0) [] (g (rowAt b w ws i) (at fs i) ∷ [])) → ((i : ℕ) → i < to → h' i ≡ cond (eqb (at (rowAt b w ws' i) 0) 0) [] (g (rowAt b w ws' i) (at fs' i) ∷ [])) → (span h' 0 to ≡ span h 0 n) × (length (span h 0 n) ≡ to)
+  closed-list ws fs ws' fs' h h' n to c e e' = (
+    decoded ws' fs' h' to e' ∙ ap (map (λ (x : Entry). g (x .row) (x .flag))) (c .list) ∙ sym (decoded ws fs h n e),
+    ap length (decoded ws fs h n e) ∙ length-map (span (entryAt b w ws fs) 0 n) (λ (x : Entry). g (x .row) (x .flag)) ∙ c .count,
+  )
 
 -- a part of the words, and that part written anew
 pub part-at : (o n : ℕ) (ws : List ℕ) (i : ℕ) → i < n → at (take n (drop o ws)) i ≡ at ws (o + i)
@@ -153,7 +155,9 @@ module _ (home live mid fs' : List ℕ) (n to : ℕ) (fits : homeWords ≤ lengt
           long = set-only 3 to mid .long ∙ long-mid;
           longLive = o .long;
           words = λ k h p q. getD-set-other mid 3 k to 0 q ∙ c .only .below k (omega arith);
-          heard = λ k h. o .below k (omega arith) } }
+          heard = λ k h. o .below k (omega arith);
+        };
+      }
 
   pub compacts-rows : taskRows (set mid 3 to) ≡ length (tasksOf home live)
   compacts-rows = rows-is ∙ sym (ap length (sym all-is) ∙ lists .1)

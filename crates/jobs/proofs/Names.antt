@@ -19,10 +19,6 @@ use Rattle.jobs.specs.Tables.{byteAt, bytesOf}
 pub not-same : (xs ys : List ℕ) → (xs ≡ ys → ⊥) → same xs ys ≡ false
 not-same xs ys ne = elim (bool (same xs ys)) [ inl t ↦ absurd (ne (same-eq xs ys t)) | inr f ↦ f ]
 
--- which comes first doesn't matter
-pub same-swap : (xs ys : List ℕ) → same xs ys ≡ same ys xs
-same-swap xs ys = elim (bool (same xs ys)) [ inl t ↦ t ∙ sym (same-sym xs ys t) | inr f ↦ f ∙ sym (not-same ys xs (λ e. clash (same xs ys) (eq-same xs ys (sym e)) f)) ]
-
 module _ (n : ℕ) (ws : List ℕ) where
   pub length-bytes : length (bytesOf n ws) ≡ n
   unfolding bytesOf

@@ -50,6 +50,3 @@ span-same {X} f g a (suc n) e =
     let p : f a ≡ g a = e a (omega arith) (omega arith) in
     let q : span f (suc a) n ≡ span g (suc a) n = span-same f g (suc a) n (λ k l h. e k (omega arith) (omega arith)) in
     ap (λ (xs : List X). xs ++ span f (suc a) n) p ∙ ap (λ (xs : List X). g a ++ xs) q
-
-pub nil-left : {X : Type 0} (xs : List X) → [] ++ xs ≡ xs
-nil-left xs = refl

@@ -48,9 +48,10 @@ apart-only lo hi c a e home home' p q o = record { long = o .long; below = λ k 
 
 pub apart-set : (lo hi c v : ℕ) (home home' : List ℕ) → c < lo → lo ≤ hi → Apart lo hi c home home' → Apart lo hi c home (set home' c v)
 apart-set lo hi c v home home' p q a = record {
-    long = set-long c v home' ∙ a .long;
-    below = λ k h n. getD-set-other home' c k v 0 n ∙ a .below k h n;
-    above = λ k h. getD-set-other home' c k v 0 (λ e. omega arith) ∙ a .above k h }
+  long = set-long c v home' ∙ a .long;
+  below = λ k h n. getD-set-other home' c k v 0 n ∙ a .below k h n;
+  above = λ k h. getD-set-other home' c k v 0 (λ e. omega arith) ∙ a .above k h;
+}
   where
     set-long : (i v : ℕ) (ws : List ℕ) → length (set ws i v) ≡ length ws
     set-long i v ws = length-set ws i v
@@ -64,11 +65,11 @@ module _ (home home' : List ℕ) (fits : homeWords ≤ length home) where
     pub jobs-state : (js : List s.Job) → jobsOf home' ≡ js → (live : List ℕ) (time : ℕ) → stateOf home' live time ≡ withJobs js (stateOf home live time)
     jobs-state js e live time =
         let ts : tasksOf home' live ≡ tasksOf home live =
-          ap (λ (n : ℕ). span (taskAt home' live) 0 (min n 2048)) (a .below 3 (omega arith) (λ q. omega arith)) ∙
-          span-same (taskAt home' live) (taskAt home live) 0 (taskRows home) (λ k l h. ap (λ (r : List ℕ). taskSlot r (at live (256 + k))) (upper (12808 + k * 27) 27 (omega arith) (omega arith))) in
+        ap (λ (n : ℕ). span (taskAt home' live) 0 (min n 2048)) (a .below 3 (omega arith) (λ q. omega arith)) ∙
+        span-same (taskAt home' live) (taskAt home live) 0 (taskRows home) (λ k l h. ap (λ (r : List ℕ). taskSlot r (at live (256 + k))) (upper (12808 + k * 27) 27 (omega arith) (omega arith))) in
         let ms : machinesOf home' live ≡ machinesOf home live =
-          ap (λ (n : ℕ). span (machineAt home' live) 0 (min n 256)) (a .below 2 (omega arith) (λ q. omega arith)) ∙
-          span-same (machineAt home' live) (machineAt home live) 0 (machineRows home) (λ k l h. ap (λ (r : List ℕ). machineSlot r (at live k)) (upper (6664 + k * 24) 24 (omega arith) (omega arith))) in
+        ap (λ (n : ℕ). span (machineAt home' live) 0 (min n 256)) (a .below 2 (omega arith) (λ q. omega arith)) ∙
+        span-same (machineAt home' live) (machineAt home live) 0 (machineRows home) (λ k l h. ap (λ (r : List ℕ). machineSlot r (at live k)) (upper (6664 + k * 24) 24 (omega arith) (omega arith))) in
         λ k. record { now = time; nextId = ap (λ (n : ℕ). n + 1) (a .below 0 (omega arith) (λ q. omega arith)) k; machines = ms k; jobs = e k; tasks = ts k }
 
   -- machines changed
@@ -82,9 +83,9 @@ module _ (home home' : List ℕ) (fits : homeWords ≤ length home) where
     pub machines-state : (ms : List s.Machine) → machinesOf home' live' ≡ ms → (time : ℕ) → stateOf home' live' time ≡ withMachines ms (stateOf home live time)
     machines-state ms e time =
         let ts : tasksOf home' live' ≡ tasksOf home live =
-          ap (λ (n : ℕ). span (taskAt home' live') 0 (min n 2048)) (a .below 3 (omega arith) (λ q. omega arith)) ∙
-          span-same (taskAt home' live') (taskAt home live) 0 (taskRows home) (λ k l h. ap (λ (r : List ℕ). taskSlot r (at live' (256 + k))) (over (12808 + k * 27) 27 (omega arith) (omega arith)) ∙ ap (taskSlot (taskRow home k)) (ready (256 + k) (omega arith))) in
+        ap (λ (n : ℕ). span (taskAt home' live') 0 (min n 2048)) (a .below 3 (omega arith) (λ q. omega arith)) ∙
+        span-same (taskAt home' live') (taskAt home live) 0 (taskRows home) (λ k l h. ap (λ (r : List ℕ). taskSlot r (at live' (256 + k))) (over (12808 + k * 27) 27 (omega arith) (omega arith)) ∙ ap (taskSlot (taskRow home k)) (ready (256 + k) (omega arith))) in
         let js : jobsOf home' ≡ jobsOf home =
-          ap (λ (n : ℕ). span (jobAt home') 0 (min n 256)) (a .below 1 (omega arith) (λ q. omega arith)) ∙
-          span-same (jobAt home') (jobAt home) 0 (jobRows home) (λ k l h. ap jobSlot (under (8 + k * 26) 26 (omega arith) (omega arith))) in
+        ap (λ (n : ℕ). span (jobAt home') 0 (min n 256)) (a .below 1 (omega arith) (λ q. omega arith)) ∙
+        span-same (jobAt home') (jobAt home) 0 (jobRows home) (λ k l h. ap jobSlot (under (8 + k * 26) 26 (omega arith) (omega arith))) in
         λ k. record { now = time; nextId = ap (λ (n : ℕ). n + 1) (a .below 0 (omega arith) (λ q. omega arith)) k; machines = e k; jobs = js k; tasks = ts k }

@@ -2,7 +2,7 @@
 -- Assumes nothing.
 use mathlib.Core.Bool.{cond}
 use mathlib.Core.List.{List, [], _∷_, _++_}
-use Prim.Native.Nat.{ℕ}
+use Prim.Native.Nat.{ℕ, _+_, _*_}
 use lib.ListN.{take}
 use Rattle.model.specs.State as s
 use Rattle.jobs.specs.declared.name.Name.{Name}
@@ -57,3 +57,8 @@ jobWords j = kindWords j ++ (j .count ∷ j .least ∷ j .most ∷ [])
 -- a machine that is new is open, and nothing was heard of it
 abbrev pub machineWords : Machine → List ℕ
 machineWords m = 1 ∷ m .num .0 ∷ m .cpu ∷ m .mem ∷ 1 ∷ 0 ∷ 0 ∷ m .count ∷ m .tags
+
+-- eight bytes from o on, in one word, high byte first
+abbrev pub packed : List ℕ → ℕ → ℕ
+packed bs o =
+    at bs o * 72057594037927936 + at bs (o + 1) * 281474976710656 + at bs (o + 2) * 1099511627776 + at bs (o + 3) * 4294967296 + at bs (o + 4) * 16777216 + at bs (o + 5) * 65536 + at bs (o + 6) * 256 + at bs (o + 7)

@@ -59,7 +59,16 @@ fn tag_words(tags: &[u32]) -> [u64; 8]
     requires { ⌜ length (now tags) ≡ 8 ⌝ }
     ensures { λ r. ⌜ r ≡ now (tags .entry) ⌝ }
 {
-    [tags[0] as u64, tags[1] as u64, tags[2] as u64, tags[3] as u64, tags[4] as u64, tags[5] as u64, tags[6] as u64, tags[7] as u64]
+    [
+        tags[0] as u64,
+        tags[1] as u64,
+        tags[2] as u64,
+        tags[3] as u64,
+        tags[4] as u64,
+        tags[5] as u64,
+        tags[6] as u64,
+        tags[7] as u64,
+    ]
 }
 
 // The row of a machine that is new: open, and nothing heard of it.

@@ -29,7 +29,14 @@ pub fn set_open(home: &mut [u64], i: usize, open: bool)
 }
 
 // A report of the machine in row `i` was heard.
-pub fn hear(home: &mut [u64], live: &mut [u64], i: usize, life: Life, number: ReportNumber, time: u64)
+pub fn hear(
+    home: &mut [u64],
+    live: &mut [u64],
+    i: usize,
+    life: Life,
+    number: ReportNumber,
+    time: u64,
+)
     requires words { ⌜ homeWords ≤ length (now home) ⌝ }
     requires flags { ⌜ liveWords ≤ length (now live) ⌝ }
     requires within { ⌜ i < machineRows (now home) ⌝ }

@@ -51,6 +51,12 @@ pub fn compact(home: &mut [u64], live: &mut [u64])
     ensures rows { λ _. ⌜ taskRows (now (home .exit)) ≡ length (tasksOf (now (home .entry)) (now (live .entry))) ⌝ }
 {
     let n = task_rows(home);
-    let count = close_rows(home, &mut live[READY_BASE..LIVE_WORDS], TASK_BASE, TASK_WIDTH, n);
+    let count = close_rows(
+        home,
+        &mut live[READY_BASE..LIVE_WORDS],
+        TASK_BASE,
+        TASK_WIDTH,
+        n,
+    );
     home[TASK_ROWS] = count as u64;
 }

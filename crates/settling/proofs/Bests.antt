@@ -33,13 +33,16 @@ module _ (ts : List s.Task) where
   unfolding add
   both m x [] = refl
   both m x (b ∷ bs) =
-      elim (cases-bool (ltb (left b ts) (left x ts)))
-        [ inl p ↦ elim (cases-bool (ltb (left m ts) (left b ts)))
-            [ inl q ↦ (let r : ltb (left m ts) (left x ts) ≡ true = lt-ltb _ _ (omega (arith, ltb-true (left b ts) (left x ts) p, ltb-true (left m ts) (left b ts) q)) in simp (p, q, r))
-            | inr q ↦ simp (p, q) ]
-        | inr p ↦ elim (cases-bool (ltb (left m ts) (left b ts)))
-            [ inl q ↦ simp (p, q)
-            | inr q ↦ (let r : ltb (left m ts) (left x ts) ≡ false = le-ltb _ _ (omega (arith, ltb-false (left b ts) (left x ts) p, ltb-false (left m ts) (left b ts) q)) in simp (p, q, r)) ] ]
+      elim (cases-bool (ltb (left b ts) (left x ts))) [
+        | inl p ↦ elim (cases-bool (ltb (left m ts) (left b ts))) [
+          | inl q ↦ (let r : ltb (left m ts) (left x ts) ≡ true = lt-ltb _ _ (omega (arith, ltb-true (left b ts) (left x ts) p, ltb-true (left m ts) (left b ts) q)) in simp (p, q, r))
+          | inr q ↦ simp (p, q)
+        ]
+        | inr p ↦ elim (cases-bool (ltb (left m ts) (left b ts))) [
+          | inl q ↦ simp (p, q)
+          | inr q ↦ (let r : ltb (left m ts) (left x ts) ≡ false = le-ltb _ _ (omega (arith, ltb-false (left b ts) (left x ts) p, ltb-false (left m ts) (left b ts) q)) in simp (p, q, r))
+        ]
+      ]
 
   best-push : (xs : List s.Machine) (x : s.Machine) → best (xs ++ x ∷ []) ts ≡ add (best xs ts) x
   unfolding best add
@@ -103,11 +106,12 @@ module _ (p : s.Machine → Bool) (ts : List s.Task) (f : ℕ → List s.Machine
     unfolding add
     added None v xs e c = this v _ e (rw c)
     added (Some b) v xs e c =
-        elim (cases-bool (ltb (b .left) v))
-          [ inl t ↦ (let u : ltb (left (c .0) ts) (left m ts) ≡ true = rw (c .4, e) at t in rw t (this v _ e (rw (c .3, u))))
+        elim (cases-bool (ltb (b .left) v)) [
+          | inl t ↦ (let u : ltb (left (c .0) ts) (left m ts) ≡ true = rw (c .4, e) at t in rw t (this v _ e (rw (c .3, u))))
           | inr g ↦ (let u : ltb (left (c .0) ts) (left m ts) ≡ false = rw (c .4, e) at g in
               let same' : add ts xs m ≡ xs = rw (c .3, u) in
-              rw (g, same') c) ]
+              rw (g, same') c)
+        ]
 
     pub tries : (b : Option Choice) (v : ℕ) → p m ≡ true → v ≡ left m ts → Chosen f n ts b (best (keep p (span f 0 k)) ts) → Chosen f n ts (improved b k v) (best (keep p (span f 0 (k + 1))) ts)
     tries b v is' e c = rw (one, keep-yes p (span f 0 k) m is', best-push ts (keep p (span f 0 k)) m) (added b v (best (keep p (span f 0 k)) ts) e c)

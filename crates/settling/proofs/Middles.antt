@@ -16,22 +16,7 @@ use Rattle.model.proofs.Lists.Members.{In}
 use Rattle.model.proofs.Lists.Chosen.{not-some}
 use Rattle.model.proofs.Tasks.ByNumber.{Rising, rising-over}
 use Rattle.jobs.specs.Changes.{endEach, placeEach}
-
-module _ {X : Type 0} where
-  pub change-mid : (f : X → Bool) (g : X → X) (a : List X) (t : X) (b : List X) → some f a ≡ false → f t ≡ true → change f g (a ++ (t ∷ b)) ≡ a ++ (g t ∷ b)
-  unfolding change some
-  change-mid f g [] t b n e = rw e
-  change-mid f g (x ∷ a) t b n e = elim (cases-bool (f x)) [ inl y ↦ absurd (let z : true ≡ false = sym (rw y) ∙ n in (let w : _≡_ {A = ℕ} 0 1 = cc in omega arith)) | inr y ↦ rw y (ap (λ (xs : List X). x ∷ xs) (change-mid f g a t b (sym (rw y) ∙ n) e)) ]
-
-  pub keep-all : (f : X → Bool) (a : List X) → some f a ≡ false → keep (λ x. not (f x)) a ≡ a
-  unfolding keep some
-  keep-all f [] n = refl
-  keep-all f (x ∷ a) n = elim (cases-bool (f x)) [ inl y ↦ absurd (let z : true ≡ false = sym (rw y) ∙ n in (let w : _≡_ {A = ℕ} 0 1 = cc in omega arith)) | inr y ↦ rw y (ap (λ (xs : List X). x ∷ xs) (keep-all f a (sym (rw y) ∙ n))) ]
-
-  pub keep-mid : (f : X → Bool) (a : List X) (t : X) (b : List X) → some f a ≡ false → f t ≡ true → some f b ≡ false → keep (λ x. not (f x)) (a ++ (t ∷ b)) ≡ a ++ b
-  unfolding keep some
-  keep-mid f [] t b n e m = rw e (keep-all f b m)
-  keep-mid f (x ∷ a) t b n e m = elim (cases-bool (f x)) [ inl y ↦ absurd (let z : true ≡ false = sym (rw y) ∙ n in (let w : _≡_ {A = ℕ} 0 1 = cc in omega arith)) | inr y ↦ rw y (ap (λ (xs : List X). x ∷ xs) (keep-mid f a t b (sym (rw y) ∙ n) e m)) ]
+use Rattle.jobs.proofs.FoundLaws.{change-mid, keep-mid}
 
 in-mid : (a : List s.Task) (t : s.Task) (b : List s.Task) → In t (a ++ (t ∷ b))
 in-mid [] t b = inl refl
@@ -58,9 +43,10 @@ unfolding ended
 ended-mid a t b more r =
     let here : isTask (t .id) t ≡ true = eq-eqb (t .id) (t .id) refl in
     let before = none-before 0 a t b r in
-    elim (cases-bool (isWaiting (t .phase)))
-    [ inl y ↦ rw y (keep-mid (isTask (t .id)) a t b before here (none-behind 0 a t b r))
-    | inr y ↦ rw y (change-mid (isTask (t .id)) (phased s.Ending) a t b before here) ]
+    elim (cases-bool (isWaiting (t .phase))) [
+      | inl y ↦ rw y (keep-mid (isTask (t .id)) a t b before here (none-behind 0 a t b r))
+      | inr y ↦ rw y (change-mid (isTask (t .id)) (phased s.Ending) a t b before here)
+    ]
 
 -- one is placed
 pub place-mid : (a : List s.Task) (t : s.Task) (b : List s.Task) (m : s.Machine) (ms : List s.Machine) → Rising 0 (a ++ (t ∷ b)) → place t (m ∷ ms) (a ++ (t ∷ b)) ≡ a ++ (placed (m .num) (m .life) t ∷ b)

@@ -34,7 +34,8 @@ risen-more home live row i last r ne l k =
     let e : span (taskAt home live) 0 (i + 1) ≡ span (taskAt home live) 0 i ++ t ∷ [] = span-more (taskAt home live) i ∙ ap (λ (xs : List s.Task). span (taskAt home live) 0 i ++ xs) (row-full home live row i r ne) in
     record {
       rises = rw e (rising-end 0 (span (taskAt home live) 0 i) t (k .rises) (λ u h. let q = k .low u h in omega arith) (omega arith));
-      low = λ u h. elim (in-end u t (span (taskAt home live) 0 i) (subst (λ (xs : List s.Task). In u xs) e h)) [ inl a ↦ (let q = k .low u a in omega arith) | inr b ↦ (let q : u .id ≡ t .id = ap (λ (x : s.Task). x .id) b in omega arith) ] }
+      low = λ u h. elim (in-end u t (span (taskAt home live) 0 i) (subst (λ (xs : List s.Task). In u xs) e h)) [ inl a ↦ (let q = k .low u a in omega arith) | inr b ↦ (let q : u .id ≡ t .id = ap (λ (x : s.Task). x .id) b in omega arith) ];
+    }
 
 pub risen-all : (home live : List ℕ) (time i last : ℕ) → i ≡ taskRows home → last ≤ at home 0 → Risen home live i last → Numbered (stateOf home live time)
 risen-all home live time i last e l k =

@@ -25,13 +25,12 @@ use Rattle.jobs.specs.Tables.{phaseFrom, taskAt, taskRow, taskRows, tasksOf, ta
 use Rattle.jobs.specs.Changes.{placeEach}
 use Rattle.jobs.proofs.Spans.{span-same, span-rest, span-end}
 use Rattle.jobs.proofs.Frames.{tasks-at, tasks-put, rows-kept, frame-none, frame-then, jobs-same, machines-same}
-
 use Rattle.settling.specs.Scan.{Numbered, Became}
 use Rattle.settling.specs.Place.{waits, PlacedRow}
 use Rattle.settling.proofs.Scans.{keep-none, keep-one, keep-append}
 use Rattle.settling.proofs.Middles.{place-mid}
 use Rattle.settling.proofs.Tallies.{row-few}
-use Rattle.settling.proofs.Growth.{now-state}
+use Rattle.jobs.proofs.SweepLaws.{now-state}
 
 all-none : (time : ℕ) (ms : List s.Machine) (ts : List s.Task) → placeAll time ms [] ts ≡ ts
 unfolding placeAll
@@ -55,8 +54,9 @@ place-none t ts = refl
 module _ (home live : List ℕ) (i time : ℕ) where
   stay : waits (taskAt home live i) ≡ [] → PlacedRow i home live home live time
   stay e = record {
-      put = (taskAt home live i, record { here = refl; others = λ j h ne. refl; rows = refl; last = refl; frame = frame-none home live });
-      tasks = sym (ap (λ (ws : List s.Task). placeAll time (machinesOf home live) ws (tasksOf home live)) e ∙ all-none time (machinesOf home live) (tasksOf home live)) }
+    put = (taskAt home live i, record { here = refl; others = λ j h ne. refl; rows = refl; last = refl; frame = frame-none home live });
+    tasks = sym (ap (λ (ws : List s.Task). placeAll time (machinesOf home live) ws (tasksOf home live)) e ∙ all-none time (machinesOf home live) (tasksOf home live));
+  }
 
   pub placed-hole : taskAt home live i ≡ [] → PlacedRow i home live home live time
   placed-hole e = stay (ap waits e ∙ keep-none (λ (t : s.Task). isWaiting (t .phase)))
@@ -73,18 +73,19 @@ module _ (home live : List ℕ) (i time : ℕ) where
 
     pub placed-none : best (keep (takes time t (tasksOf home live)) (machinesOf home live)) (tasksOf home live) ≡ [] → PlacedRow i home live home live time
     placed-none e = record {
-        put = (taskAt home live i, record { here = refl; others = λ j h ne. refl; rows = refl; last = refl; frame = frame-none home live });
-        tasks = sym (goal [] e ∙ place-none t (tasksOf home live)) }
+      put = (taskAt home live i, record { here = refl; others = λ j h ne. refl; rows = refl; last = refl; frame = frame-none home live });
+      tasks = sym (goal [] e ∙ place-none t (tasksOf home live));
+    }
 
     pub placed-some : (home' live' : List ℕ) (m : s.Machine) → homeWords ≤ length home → i < taskRows home → Numbered (stateOf home live time) → best (keep (takes time t (tasksOf home live)) (machinesOf home live)) (tasksOf home live) ≡ m ∷ [] →
-      TaskPut i (placeEach (m .num) (m .life) (taskAt home live i)) home live home' live' → PlacedRow i home live home' live' time
+        TaskPut i (placeEach (m .num) (m .life) (taskAt home live i)) home live home' live' → PlacedRow i home live home' live' time
     placed-some home' live' m fits h num e p =
         let a = tasksBefore home live i in
         let b = tasksBehind home live i in
         let list : tasksOf home live ≡ a ++ (t ∷ b) = tasks-at home live i h ∙ ap (λ (ys : List s.Task). a ++ (ys ++ b)) is in
         let rise : Rising 0 (a ++ (t ∷ b)) = subst (λ (ys : List s.Task). Rising 0 ys) list (num .0) in
         let out : place t (m ∷ []) (tasksOf home live) ≡ a ++ (placeEach (m .num) (m .life) (taskAt home live i) ++ b) =
-          ap (place t (m ∷ [])) list ∙ place-mid a t b m [] rise ∙ ap (λ (ys : List s.Task). a ++ (placeEach (m .num) (m .life) ys ++ b)) (sym is) in
+        ap (place t (m ∷ [])) list ∙ place-mid a t b m [] rise ∙ ap (λ (ys : List s.Task). a ++ (placeEach (m .num) (m .life) ys ++ b)) (sym is) in
         record { put = (placeEach (m .num) (m .life) (taskAt home live i), p); tasks = tasks-put home live home' live' i _ fits h p ∙ sym (goal (m ∷ []) e ∙ out) }
 
 -- ALL ROWS
@@ -106,11 +107,12 @@ few-rise (x ∷ y ∷ ys) h = absurd (let q : suc (suc (length ys)) ≤ 1 = h in
 
 row-queue : (home live : List ℕ) (i time : ℕ) → i < taskRows home → Numbered (stateOf home live time) → Queue 0 (waits (taskAt home live i)) (tasksOf home live)
 row-queue home live i time h num = record {
-    rises = few-rise (taskAt home live i) (row-few home live i);
-    there = λ t k.
+  rises = few-rise (taskAt home live i) (row-few home live i);
+  there = λ t k.
       let q = in-keep (λ (u : s.Task). isWaiting (u .phase)) (taskAt home live i) t k in
       (subst (λ (xs : List s.Task). In t xs) (sym (tasks-at home live i h)) (in-right t (tasksBefore home live i) _ (in-left t (taskAt home live i) (tasksBehind home live i) (q .0))), q .1);
-    low = num .0 }
+  low = num .0;
+}
 
 pub record Placing (h0 l0 : List ℕ) (time i : ℕ) (home live : List ℕ) : Type 0 where
   pub rest : placeAll time (machinesOf h0 l0) (waits (span (taskAt home live) i (taskRows h0 - i))) (tasksOf home live) ≡ placeAll time (machinesOf h0 l0) (waits (tasksOf h0 l0)) (tasksOf h0 l0)
@@ -121,8 +123,12 @@ pub record Placing (h0 l0 : List ℕ) (time i : ℕ) (home live : List ℕ) : Ty
 
 pub placing-none : (h0 l0 : List ℕ) (time : ℕ) → Numbered (stateOf h0 l0 time) → Placing h0 l0 time 0 h0 l0
 placing-none h0 l0 time n = record {
-    rest = (let e : taskRows h0 - 0 ≡ taskRows h0 = omega arith in ap (λ (k : ℕ). placeAll time (machinesOf h0 l0) (waits (span (taskAt h0 l0) 0 k)) (tasksOf h0 l0)) e);
-    numbered = n; rows = refl; last = refl; frame = frame-none h0 l0 }
+  rest = (let e : taskRows h0 - 0 ≡ taskRows h0 = omega arith in ap (λ (k : ℕ). placeAll time (machinesOf h0 l0) (waits (span (taskAt h0 l0) 0 k)) (tasksOf h0 l0)) e);
+  numbered = n;
+  rows = refl;
+  last = refl;
+  frame = frame-none h0 l0;
+}
 
 pub placing-more : (h0 l0 : List ℕ) (time i : ℕ) (home live home' live' : List ℕ) → homeWords ≤ length h0 → i < taskRows h0 → Placing h0 l0 time i home live → PlacedRow i home live home' live' time → Placing h0 l0 time (i + 1) home' live'
 placing-more h0 l0 time i home live home' live' fits w c q =
@@ -137,11 +143,12 @@ placing-more h0 l0 time i home live home' live' fits w c q =
     let st : stateOf home' live' time ≡ withTasks (placeAll time (machinesOf home live) (waits (taskAt home live i)) (tasksOf home live)) (stateOf home live time) = now-state home live home' live' time _ fits' (record { tasks = q .tasks; last = p .last; frame = p .frame }) in
     record {
       rest = ap (λ (xs : List s.Task). placeAll time (machinesOf h0 l0) (waits xs) (tasksOf home' live')) ahead ∙ ap (placeAll time (machinesOf h0 l0) (waits (span (taskAt home live) (i + 1) (n - (i + 1))))) now' ∙
-        sym (ap (λ (xs : List s.Task). placeAll time (machinesOf h0 l0) xs (tasksOf home live)) cut ∙ all-append time (machinesOf h0 l0) (waits (taskAt home live i)) (waits (span (taskAt home live) (i + 1) (n - (i + 1)))) (tasksOf home live)) ∙ c .rest;
+          sym (ap (λ (xs : List s.Task). placeAll time (machinesOf h0 l0) xs (tasksOf home live)) cut ∙ all-append time (machinesOf h0 l0) (waits (taskAt home live i)) (waits (span (taskAt home live) (i + 1) (n - (i + 1)))) (tasksOf home live)) ∙ c .rest;
       numbered = subst (λ (u : s.State). Tidy u) (sym st) (tidy-pass Never Put put-id (stateOf home live time) (places-pass time 0 (machinesOf home live) (waits (taskAt home live i)) (tasksOf home live) (row-queue home live i time (omega arith) (c .numbered))) (c .numbered));
       rows = p .rows ∙ c .rows;
       last = p .last ∙ c .last;
-      frame = frame-then h0 l0 home live home' live' (c .frame) (p .frame) }
+      frame = frame-then h0 l0 home live home' live' (c .frame) (p .frame);
+    }
 
 pub placing-all : (h0 l0 : List ℕ) (time i : ℕ) (home live : List ℕ) → homeWords ≤ length h0 → taskRows h0 ≤ i → Placing h0 l0 time i home live → Became (placing (stateOf h0 l0 time)) h0 l0 home live time
 placing-all h0 l0 time i home live fits h c =
@@ -167,8 +174,9 @@ module _ (home live mid home1 live1 home2 live2 : List ℕ) (time : ℕ) (fits :
 
     pub passed : Became (placing (stateOf home1 live1 time)) home1 live1 home2 live2 time → Became (settle (stateOf home live time)) home live home2 live2 time
     passed p = record {
-        state = p .state ∙ ap placing stepped;
-        frame = frame-then home live home1 live1 home2 live2 (frame-then home live mid live home1 live1 (o .frame) (j .frame)) (p .frame) }
+      state = p .state ∙ ap placing stepped;
+      frame = frame-then home live home1 live1 home2 live2 (frame-then home live mid live home1 live1 (o .frame) (j .frame)) (p .frame);
+    }
 
     pub passed-numbered : Became (placing (stateOf home1 live1 time)) home1 live1 home2 live2 time → Numbered (stateOf home2 live2 time)
     passed-numbered p = subst (λ (u : s.State). Tidy u) (sym (p .state ∙ ap placing stepped)) (tidy-settle (stateOf home live time) num)

@@ -59,7 +59,14 @@ fn improve(best: Option<Choice>, at: usize, left: u64) -> Option<Choice>
 }
 
 // The machine with most cpu left of those that take the task in row `i`, the first of those alike.
-pub fn choose(home: &[u64], live: &[u64], i: usize, spec: &Spec, loads: &[Load], time: u64) -> Option<Choice>
+pub fn choose(
+    home: &[u64],
+    live: &[u64],
+    i: usize,
+    spec: &Spec,
+    loads: &[Load],
+    time: u64,
+) -> Option<Choice>
     requires words { ⌜ homeWords ≤ length (now home) ⌝ }
     requires flags { ⌜ liveWords ≤ length (now live) ⌝ }
     requires size { ⌜ length (now loads) ≡ 256 ⌝ }

@@ -52,7 +52,11 @@ fn add_weight(load: Load, num: u64, w: Weight) -> Load
     if num != w.machine.0 as u64 {
         return load;
     }
-    Load { cpu: load.cpu + w.cpu as u64, mem: load.mem + w.mem as u64, mine: load.mine || w.mine }
+    Load {
+        cpu: load.cpu + w.cpu as u64,
+        mem: load.mem + w.mem as u64,
+        mine: load.mine || w.mine,
+    }
 }
 
 // One task more is on its machine.
@@ -73,7 +77,11 @@ fn clear_all(loads: &mut [Load])
     ensures { λ _. ⌜ ((r : ℕ) (e : LoadT) → r < 256 → getD (now (loads .exit)) r e ≡ noLoad) ⌝ }
 {
     for r in 0..MAX_MACHINES {
-        loads[r] = Load { cpu: 0, mem: 0, mine: false };
+        loads[r] = Load {
+            cpu: 0,
+            mem: 0,
+            mine: false,
+        };
     }
 }
 

@@ -21,6 +21,10 @@ pub fn settle(home: &mut [u64], live: &mut [u64], time: u64)
 {
     end_orphans(home);
     step_jobs(home, live, time);
-    let mut loads = [Load { cpu: 0, mem: 0, mine: false }; 256];
+    let mut loads = [Load {
+        cpu: 0,
+        mem: 0,
+        mine: false,
+    }; 256];
     place_all(home, live, &mut loads, time);
 }

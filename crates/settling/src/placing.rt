@@ -28,7 +28,10 @@ fn place_on(row: &[u64]) -> Place
     ensures machine { λ r. ⌜ r .machine .0 ≡ at (now (row .entry)) 1 % 65536 ⌝ }
     ensures life { λ r. ⌜ r .life .0 ≡ at (now (row .entry)) 5 ⌝ }
 {
-    Place { machine: MachineId((row[1] % 65536) as u16), life: Life(row[5]) }
+    Place {
+        machine: MachineId((row[1] % 65536) as u16),
+        life: Life(row[5]),
+    }
 }
 
 // The task in row `i`, if it waits, goes to the best machine that takes it beside all that is there.

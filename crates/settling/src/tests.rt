@@ -48,7 +48,13 @@ fn is_numbered(home: &[u64]) -> bool
 }
 
 fn machine(num: u16) -> Machine {
-    Machine { num: MachineId(num), cpu: 10, mem: 10, count: 0, tags: [0; 16] }
+    Machine {
+        num: MachineId(num),
+        cpu: 10,
+        mem: 10,
+        count: 0,
+        tags: [0; 16],
+    }
 }
 
 fn job(version: u32, tags: u8, count: u16) -> Job
@@ -56,9 +62,19 @@ fn job(version: u32, tags: u8, count: u16) -> Job
     ensures { λ r. ⌜ r .version .0 ≡ version ⌝ }
 {
     Job {
-        name: Name { len: 1, words: [7, 0, 0, 0, 0, 0, 0, 0] },
+        name: Name {
+            len: 1,
+            words: [7, 0, 0, 0, 0, 0, 0, 0],
+        },
         version: Version(version),
-        spec: Spec { image: version, cpu: 4, mem: 1, apart: false, count: tags, tags: [9; 8] },
+        spec: Spec {
+            image: version,
+            cpu: 4,
+            mem: 1,
+            apart: false,
+            count: tags,
+            tags: [9; 8],
+        },
         count,
         least: 1,
         most: 3,

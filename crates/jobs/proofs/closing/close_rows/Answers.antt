@@ -47,8 +47,9 @@ loop-i-again c =
     let f0 = c .args .flags .now in
     let f = first-word (c .args .base) (c .args .width) (c .loop-i .home) (c .loop-i .i) (c .pre .wide) in
     elim (c .if-home-base-ne0 .came) [
-      then-home-base-ne0 w ↦ rw (w .to-is, w .home-is, w .flags-is) (closing-move (c .args .base) (c .args .width) (c .args .n) h0 f0 (c .loop-i .i) (c .loop-i .to) (c .loop-i .home) (c .loop-i .flags) (c .loop-i-test .taken) (c .loop-i .inv) (w .move-words .last .home) (omega arith) (omega arith) (λ e. w .if-home-base-ne0 .taken (sym f ∙ e)) (w .move-words .ensures))
-    | else-home-base-ne0 w ↦ rw (w .to-is, w .home-is, w .flags-is) (closing-hole (c .args .base) (c .args .width) (c .args .n) h0 f0 (c .loop-i .i) (c .loop-i .to) (c .loop-i .home) (c .loop-i .flags) (c .loop-i-test .taken) (c .loop-i .inv) (f ∙ w .if-home-base-ne0 .left)) ]
+      | then-home-base-ne0 w ↦ rw (w .to-is, w .home-is, w .flags-is) (closing-move (c .args .base) (c .args .width) (c .args .n) h0 f0 (c .loop-i .i) (c .loop-i .to) (c .loop-i .home) (c .loop-i .flags) (c .loop-i-test .taken) (c .loop-i .inv) (w .move-words .last .home) (omega arith) (omega arith) (λ e. w .if-home-base-ne0 .taken (sym f ∙ e)) (w .move-words .ensures))
+      | else-home-base-ne0 w ↦ rw (w .to-is, w .home-is, w .flags-is) (closing-hole (c .args .base) (c .args .width) (c .args .n) h0 f0 (c .loop-i .i) (c .loop-i .to) (c .loop-i .home) (c .loop-i .flags) (c .loop-i-test .taken) (c .loop-i .inv) (f ∙ w .if-home-base-ne0 .left))
+    ]
 
 pub returns : need.returns
 returns c = closing-all (c .args .base) (c .args .width) (c .args .n) (c .args .home .now) (c .args .flags .now) (c .loop-i .i) (c .loop-i .to) (c .loop-i .home) (c .loop-i .flags) (omega arith) (c .loop-i .inv)

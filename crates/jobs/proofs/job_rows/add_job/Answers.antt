@@ -12,6 +12,7 @@ use Rattle.jobs.proofs.job_rows.add_job.Needs as need
 
 pub returns : need.returns
 returns c = record {
-    answer = sym (lt-ltb (length (jobsOf (c .args .home .now))) 256 (omega arith));
-    refused = λ e. absurd (true≢false e);
-    added = λ e. jobs-then (c .args .home .now) (c .make-job-room .last .home) (c .push-job .last .home) (jobOf (c .args .job)) (c .make-job-room .ensures .now) (c .push-job .ensures) }
+  answer = sym (lt-ltb (length (jobsOf (c .args .home .now))) 256 (omega arith));
+  refused = λ e. absurd (true≢false e);
+  added = λ e. jobs-then (c .args .home .now) (c .make-job-room .last .home) (c .push-job .last .home) (jobOf (c .args .job)) (c .make-job-room .ensures .now) (c .push-job .ensures);
+}

@@ -20,8 +20,9 @@ loop-i-again c =
     let f = jobAt (c .args .home .now) in
     let r = c .job-row .result .now in
     elim (c .if-job-row-ne0 .came) [
-      then-job-row-ne0 w ↦ rw (w .count-is) (count-more f (c .loop-i .i) (c .loop-i .count) (jobFrom r ∷ []) (ap jobSlot (sym (c .job-row .ensures .is)) ∙ slot-full (at r 0) (jobFrom r) (w .if-job-row-ne0 .taken)) (c .loop-i .inv .0), omega arith)
-    | else-job-row-ne0 w ↦ rw (w .count-is) ((let e : c .loop-i .count ≡ c .loop-i .count + 0 = omega arith in e ∙ count-more f (c .loop-i .i) (c .loop-i .count) [] (ap jobSlot (sym (c .job-row .ensures .is)) ∙ slot-hole (at r 0) (jobFrom r) (w .if-job-row-ne0 .left)) (c .loop-i .inv .0)), omega arith) ]
+      | then-job-row-ne0 w ↦ rw (w .count-is) (count-more f (c .loop-i .i) (c .loop-i .count) (jobFrom r ∷ []) (ap jobSlot (sym (c .job-row .ensures .is)) ∙ slot-full (at r 0) (jobFrom r) (w .if-job-row-ne0 .taken)) (c .loop-i .inv .0), omega arith)
+      | else-job-row-ne0 w ↦ rw (w .count-is) ((let e : c .loop-i .count ≡ c .loop-i .count + 0 = omega arith in e ∙ count-more f (c .loop-i .i) (c .loop-i .count) [] (ap jobSlot (sym (c .job-row .ensures .is)) ∙ slot-hole (at r 0) (jobFrom r) (w .if-job-row-ne0 .left)) (c .loop-i .inv .0)), omega arith)
+    ]
 
 pub returns : need.returns
 returns c = let e : c .loop-i .i ≡ jobRows (c .args .home .now) = omega arith in c .loop-i .inv .0 ∙ ap (λ (n : ℕ). length (span (jobAt (c .args .home .now)) 0 n)) e

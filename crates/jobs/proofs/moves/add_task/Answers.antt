@@ -20,4 +20,5 @@ returns c =
     let only : Only (12808 + n * 27) (12808 + n * 27 + 27) (c .put-words .last .home) home = subst (λ (k : ℕ). Only (12808 + n * 27) (12808 + n * 27 + k) (c .put-words .last .home) home) long (c .put-words .ensures .only) in
     record {
       state = adds home live (c .put-words .last .home) (c .args .j) n (c .pre .words) (c .pre .flags) (omega arith) (c .task-rows-n .ensures .is) (here ∙ row) only;
-      frame = adds-frame home live (c .put-words .last .home) (c .args .j) n (c .pre .words) (c .pre .flags) (omega arith) (c .task-rows-n .ensures .is) (here ∙ row) only }
+      frame = adds-frame home live (c .put-words .last .home) (c .args .j) n (c .pre .words) (c .pre .flags) (omega arith) (c .task-rows-n .ensures .is) (here ∙ row) only;
+    }

@@ -33,7 +33,7 @@ machines-again-then-row-eq0 c =
     let r = c .machine-row-row .result .now in
     let h = at live (c .machines .r) in
     passes (takes (c .args .time) (taskIn home live (c .args .i)) ts) ts (machineAt home live) (machineRows home) (c .machines .r) (omega arith) (c .machines .best)
-      (ap (λ (x : List ℕ). machineSlot x h) (sym (c .machine-row-row .ensures .is)) ∙ slot-hole (at r 0) (machineFrom r h) (c .if-row-eq0 .taken)) (c .machines .inv)
+    (ap (λ (x : List ℕ). machineSlot x h) (sym (c .machine-row-row .ensures .is)) ∙ slot-hole (at r 0) (machineFrom r h) (c .if-row-eq0 .taken)) (c .machines .inv)
 
 pub machines-again-then-not-fits-on : need.machines-again-then-not-fits-on
 machines-again-then-not-fits-on c =
@@ -47,7 +47,7 @@ machines-again-then-not-fits-on c =
     let is : machineAt home live (c .machines .r) ≡ m ∷ [] = slot-full (at (machineRow home (c .machines .r)) 0) m (λ e. c .if-row-eq0 .left (ap (λ (x : List ℕ). at x 0) (c .machine-row-row .ensures .is) ∙ e)) in
     let no' : fitsOn (c .args .time) (t .spec) l m ≡ false = ap (λ (a : s.Spec). fitsOn (c .args .time) a l m) (sym (c .pre .spec)) ∙ ap (λ (x : List ℕ). fitsOn (c .args .time) (specOf (c .args .spec .now)) l (machineFrom x h)) (sym (c .machine-row-row .ensures .is)) ∙ sym (c .fits-on .ensures) ∙ c .if-not-fits-on .taken in
     skips (takes (c .args .time) t ts) ts (machineAt home live) (machineRows home) (c .machines .r) (omega arith) m is (c .machines .best)
-      (lacks-rest (c .args .time) t ts m l (c .pre .loads (c .machines .r) noLoad (omega arith)) no') (c .machines .inv)
+    (lacks-rest (c .args .time) t ts m l (c .pre .loads (c .machines .r) noLoad (omega arith)) no') (c .machines .inv)
 
 pub machines-again-then-not-has-tag : need.machines-again-then-not-has-tag
 machines-again-then-not-has-tag c =
@@ -99,4 +99,4 @@ machines-again c =
     let cpu : c .from .result ≡ m .cpu = c .from .ensures ∙ c .low-half .ensures ∙ ap (λ (x : List ℕ). low (at x 2)) (c .machine-row-row .ensures .is) in
     let v : c .from .result - l .cpu ≡ left m ts = ap (λ (x : ℕ). x - l .cpu) cpu ∙ left-is (c .args .time) t ts m l k in
     rw (c .improve-best .ensures)
-      (tries (takes (c .args .time) t ts) ts (machineAt home live) (machineRows home) (c .machines .r) (omega arith) m is (c .machines .best) (c .from .result - l .cpu) (lacks-none (c .args .time) t ts m l k fit g) v (c .machines .inv))
+    (tries (takes (c .args .time) t ts) ts (machineAt home live) (machineRows home) (c .machines .r) (omega arith) m is (c .machines .best) (c .from .result - l .cpu) (lacks-none (c .args .time) t ts m l k fit g) v (c .machines .inv))

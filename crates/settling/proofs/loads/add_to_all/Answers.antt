@@ -21,7 +21,7 @@ add-weight-requires c κs =
 pub loop-r-again : need.loop-r-again
 loop-r-again c =
     adding-more (c .args .home .now) (c .args .w) (c .args .loads .now) (c .loop-r .loads) (c .loop-r .r) (c .add-weight .result) noLoad (omega arith) (omega arith) (c .loop-r .inv)
-      (c .add-weight .ensures ∙ ap (λ (row : List ℕ). heavier (at row 1 % 65536) (c .args .w) (getD (c .loop-r .loads) (c .loop-r .r) noLoad)) (c .machine-row .ensures .is))
+    (c .add-weight .ensures ∙ ap (λ (row : List ℕ). heavier (at row 1 % 65536) (c .args .w) (getD (c .loop-r .loads) (c .loop-r .r) noLoad)) (c .machine-row .ensures .is))
 
 pub returns : need.returns
 returns c = λ r e h. c .loop-r .inv r e h .0 (omega arith)

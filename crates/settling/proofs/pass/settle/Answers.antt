@@ -23,4 +23,5 @@ returns c =
     let mid = c .end-orphans .last .home in
     record {
       state = passed home live mid (c .step-jobs .last .home) (c .step-jobs .last .live) (c .place-all .last .home) (c .place-all .last .live) (c .args .time) (c .pre .words) (c .pre .numbered) (c .end-orphans .ensures live) (c .step-jobs .ensures) (c .place-all .ensures);
-      numbered = passed-numbered home live mid (c .step-jobs .last .home) (c .step-jobs .last .live) (c .place-all .last .home) (c .place-all .last .live) (c .args .time) (c .pre .words) (c .pre .numbered) (c .end-orphans .ensures live) (c .step-jobs .ensures) (c .place-all .ensures) }
+      numbered = passed-numbered home live mid (c .step-jobs .last .home) (c .step-jobs .last .live) (c .place-all .last .home) (c .place-all .last .live) (c .args .time) (c .pre .words) (c .pre .numbered) (c .end-orphans .ensures live) (c .step-jobs .ensures) (c .place-all .ensures);
+    }

@@ -13,8 +13,9 @@ loop-i-again c =
     let home = c .args .home .now in
     let row = c .task-row .result .now in
     elim (c .if-id-ne0 .came) [
-      then-id-ne0·else-id-last w ↦ rw (w .last-is) (λ live. risen-more home live row (c .loop-i .i) (c .loop-i .last) (c .task-row .ensures .is) (w .if-id-ne0 .taken) (omega arith) (c .loop-i .inv live))
-    | else-id-ne0 w ↦ rw (w .last-is) (λ live. risen-hole home live row (c .loop-i .i) (c .loop-i .last) (c .task-row .ensures .is) (w .if-id-ne0 .left) (c .loop-i .inv live)) ]
+      | then-id-ne0·else-id-last w ↦ rw (w .last-is) (λ live. risen-more home live row (c .loop-i .i) (c .loop-i .last) (c .task-row .ensures .is) (w .if-id-ne0 .taken) (omega arith) (c .loop-i .inv live))
+      | else-id-ne0 w ↦ rw (w .last-is) (λ live. risen-hole home live row (c .loop-i .i) (c .loop-i .last) (c .task-row .ensures .is) (w .if-id-ne0 .left) (c .loop-i .inv live))
+    ]
 
 pub returns : need.returns
 returns c = λ e live time. risen-all (c .args .home .now) live time (c .loop-i .i) (c .loop-i .last) (omega arith) (leb-true _ _ e) (c .loop-i .inv live)
