@@ -7,13 +7,14 @@ use Prim.Native.Nat.{ℕ, min, suc, _+_, _%_, _<_, _≤_}
 use native.Mathlib.Omega.{arith}
 use lib.Dec.{eqb}
 use lib.ListN.{length, getD, take, drop}
+use Rattle.std.proofs.shelf.Tests.{eqb-true, eqb-false}
 use Rattle.std.proofs.shelf.Lists.{length-take, length-drop, take-all, take-append-drop}
 use Rattle.model.specs.Calls.{newMachine}
 use Rattle.jobs.specs.declared.job.Job.{Job}
 use Rattle.jobs.specs.declared.machine.Machine.{Machine}
 use Rattle.jobs.specs.Rows.{at}
 use Rattle.jobs.specs.Tables.{low, flag, jobFrom, machineFrom}
-use Rattle.jobs.specs.Values.{jobOf, jobWords, machineWords}
+use Rattle.jobs.specs.Values.{jobOf, jobWords, machineWords, versionWord}
 use Rattle.jobs.proofs.Names.{eight}
 
 -- what a job's type says of it
@@ -42,9 +43,24 @@ tags-back xs h lows =
     let e : (k : ℕ) → low (getD xs k 0) ≡ getD xs k 0 = λ k. small (getD xs k 0) (lows k) in
     rw (e 0, e 1, e 2, e 3, e 4, e 5, e 6, e 7) (eight xs h)
 
+-- a version is no hole, and read as it was written
+pub version-there : (v : ℕ) → 0 < versionWord v
+version-there v = pick (eqb v 0) refl
+  where
+    pick : (b : Bool) → eqb v 0 ≡ b → 0 < cond b 4294967296 v
+    pick true e = omega arith
+    pick false e = let f = eqb-false v 0 e in omega (arith, f)
+
+version-back : (v : ℕ) → v < 4294967296 → low (versionWord v) ≡ v
+version-back v h = pick (eqb v 0) refl
+  where
+    pick : (b : Bool) → eqb v 0 ≡ b → low (cond b 4294967296 v) ≡ v
+    pick true e = sym (eqb-true v 0 e)
+    pick false e = small v h
+
 pub job-back : (j : Job) → Sized j → jobFrom (jobWords j) ≡ jobOf j
 job-back j s =
-    let v = small (j .version .0) (s .version) in
+    let v = version-back (j .version .0) (s .version) in
     let a = small (j .spec .image) (s .image) in
     let b = small (j .spec .cpu) (s .cpu) in
     let c = small (j .spec .mem) (s .mem) in

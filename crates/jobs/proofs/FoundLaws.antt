@@ -12,7 +12,7 @@ use Rattle.model.specs.Lists.{some, keep, find, change}
 use Rattle.model.specs.State as s
 use Rattle.model.specs.State.{isJob, isMachine}
 use Rattle.model.specs.Promise.{onceJobs, onceMachines}
-use Rattle.model.proofs.Tasks.{same-eq}
+use Rattle.model.proofs.Tasks.Names.{same-eq}
 use Rattle.jobs.specs.Rows.{span}
 use Rattle.jobs.specs.Tables.{jobAt, jobRows, jobsOf, jobsWith, machineAt, machineRows, machinesOf, machinesWith, spanWith, FoundAt}
 use Rattle.jobs.proofs.Spans.{span-at}

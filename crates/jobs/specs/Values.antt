@@ -3,6 +3,7 @@
 use mathlib.Core.Bool.{cond}
 use mathlib.Core.List.{List, [], _∷_, _++_}
 use Prim.Native.Nat.{ℕ, _+_, _*_}
+use lib.Dec.{eqb}
 use lib.ListN.{take}
 use Rattle.model.specs.State as s
 use Rattle.jobs.specs.declared.name.Name.{Name}
@@ -45,9 +46,13 @@ jobOf j = record { name = nameOf (j .name); version = j .version .0; spec = spec
 
 -- THE WORDS THAT VALUES ARE WRITTEN AS
 
+-- a version 0, which never comes to be, is no hole
+abbrev pub versionWord : ℕ → ℕ
+versionWord v = cond (eqb v 0) 4294967296 v
+
 abbrev pub kindWords : Job → List ℕ
 kindWords j =
-    j .version .0 ∷ j .spec .image ∷ j .spec .cpu ∷ j .spec .mem ∷ cond (j .spec .apart) 1 0 ∷ j .spec .count ∷
+    versionWord (j .version .0) ∷ j .spec .image ∷ j .spec .cpu ∷ j .spec .mem ∷ cond (j .spec .apart) 1 0 ∷ j .spec .count ∷
     at (j .spec .tags) 0 ∷ at (j .spec .tags) 1 ∷ at (j .spec .tags) 2 ∷ at (j .spec .tags) 3 ∷ at (j .spec .tags) 4 ∷ at (j .spec .tags) 5 ∷ at (j .spec .tags) 6 ∷ at (j .spec .tags) 7 ∷
     j .name .len ∷ at (j .name .words) 0 ∷ at (j .name .words) 1 ∷ at (j .name .words) 2 ∷ at (j .name .words) 3 ∷ at (j .name .words) 4 ∷ at (j .name .words) 5 ∷ at (j .name .words) 6 ∷ at (j .name .words) 7 ∷ []
 

@@ -6,9 +6,17 @@ ghost use lib.ListN.{length, getD, take};
 ghost use Rattle.model.specs.Calls.{newMachine};
 ghost use Rattle.jobs.specs.Rows.{at};
 ghost use Rattle.jobs.specs.Tables.{jobFrom, machineFrom};
-ghost use Rattle.jobs.specs.Values.{jobOf, jobWords, machineWords};
+ghost use Rattle.jobs.specs.Values.{jobOf, jobWords, machineWords, versionWord};
+use crate::ids::Version;
 use crate::job::Job;
 use crate::machine::Machine;
+
+// A version as a word that is no hole.
+fn version_word(version: Version) -> u64
+    ensures { λ r. ⌜ r ≡ versionWord (version .0) ⌝ }
+{
+    if version.0 == 0 { 4294967296 } else { version.0 as u64 }
+}
 
 // The words of a job's row.
 fn job_words(job: Job) -> [u64; 26]
@@ -17,7 +25,7 @@ fn job_words(job: Job) -> [u64; 26]
     let tags = job.spec.tags;
     let name = job.name.words;
     [
-        job.version.0 as u64,
+        version_word(job.version),
         job.spec.image as u64,
         job.spec.cpu as u64,
         job.spec.mem as u64,
@@ -49,7 +57,7 @@ fn job_words(job: Job) -> [u64; 26]
 // A job's row, which stands for that job.
 pub fn encode_job(job: Job) -> [u64; 26]
     ensures back { λ r. ⌜ jobFrom r ≡ jobOf job ⌝ }
-    ensures version { λ r. ⌜ at r 0 ≡ job .version .0 ⌝ }
+    ensures there { λ r. ⌜ 0 < at r 0 ⌝ }
 {
     job_words(job)
 }

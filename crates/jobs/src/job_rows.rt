@@ -21,7 +21,6 @@ use crate::rows::job_rows as rows_in_use;
 pub fn put_job(home: &mut [u64], i: usize, job: Job)
     requires words { ⌜ homeWords ≤ length (now home) ⌝ }
     requires within { ⌜ i < jobRows (now home) ⌝ }
-    requires version { ⌜ 0 < job .version .0 ⌝ }
     ensures { λ _. ⌜ JobsNow (jobsWith (now (home .entry)) i (jobOf job ∷ [])) (now (home .entry)) (now (home .exit)) ⌝ }
 {
     let words = encode_job(job);
@@ -78,7 +77,6 @@ fn make_job_room(home: &mut [u64])
 fn push_job(home: &mut [u64], job: Job)
     requires words { ⌜ homeWords ≤ length (now home) ⌝ }
     requires free { ⌜ jobRows (now home) < 256 ⌝ }
-    requires version { ⌜ 0 < job .version .0 ⌝ }
     ensures { λ _. ⌜ JobsNow (jobsOf (now (home .entry)) ++ jobOf job ∷ []) (now (home .entry)) (now (home .exit)) ⌝ }
 {
     let n = rows_in_use(home);
@@ -90,7 +88,6 @@ fn push_job(home: &mut [u64], job: Job)
 // One more job, behind the others; refused where there are 256.
 pub fn add_job(home: &mut [u64], job: Job) -> bool
     requires words { ⌜ homeWords ≤ length (now home) ⌝ }
-    requires version { ⌜ 0 < job .version .0 ⌝ }
     ensures answer { λ r. ⌜ r ≡ ltb (length (jobsOf (now (home .entry)))) 256 ⌝ }
     ensures refused { λ r. ⌜ (r ≡ false → now (home .exit) ≡ now (home .entry)) ⌝ }
     ensures added { λ r. ⌜ (r ≡ true → JobsNow (jobsOf (now (home .entry)) ++ jobOf job ∷ []) (now (home .entry)) (now (home .exit))) ⌝ }

@@ -2,7 +2,7 @@
 //
 // home, 68,104 words: 0 the last task number given, 1 to 3 how many rows of jobs, machines and tasks are in use, 4 to 7 free;
 // then 256 rows of jobs (26 words), 256 of machines (24), 2,048 of tasks (27).
-//   job      0 version (0: a hole)  1 to 13 spec  14 to 22 name  23 count  24 least  25 most
+//   job      0 version (0: a hole; a version 0 is written as 2^32)  1 to 13 spec  14 to 22 name  23 count  24 least  25 most
 //   machine  0 flag (0: a hole)  1 number  2 cpu  3 memory  4 open  5 life  6 last report  7 how many tags  8 to 23 tags
 //   task     0 number (0: a hole)  1 phase  2 machine  3 life  4 version  5 to 17 spec  18 to 26 name
 //   spec     0 image  1 cpu  2 memory  3 apart  4 how many tags  5 to 12 tags
