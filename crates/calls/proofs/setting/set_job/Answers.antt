@@ -20,14 +20,14 @@ returns-in-rest c =
     let w = c .args .wanted in
     record { acts = set-bad (w .name .now) (likeOf (w .like)) (w .count) (w .least) (w .most) (c .args .home .now) (c .in-rest .ensures tt); same = refl }
 
-pub returns-then-job-sum-of-mosts : need.returns-then-job-sum-of-mosts
-returns-then-job-sum-of-mosts c =
+pub returns-then-from : need.returns-then-from
+returns-then-from c =
     let w = c .args .wanted in
     let e = c .in-Some .ensures tt in
     let n : nameOf (c .in-Some .job .name) ≡ c .args .wanted .name .now = ap (λ (j : s.Job). j .name) (e .1) in
     let m : c .in-Some .job .most ≡ c .args .wanted .most = ap (λ (j : s.Job). j .most) (e .1) in
     let o : c .sum-of-mosts .result ≡ allMost (others (c .args .wanted .name .now) (jobsOf (c .args .home .now))) = c .sum-of-mosts .ensures ∙ ap (λ (x : s.Name). allMost (others x (jobsOf (c .args .home .now)))) n in
-    let t = c .if-job-sum-of-mosts .taken in
+    let t = c .if-from .taken in
     record { acts = set-most (w .name .now) (likeOf (w .like)) (w .count) (w .least) (w .most) (c .args .home .now) (e .0) (omega arith); same = refl }
 
 pub returns-in-None : need.returns-in-None
@@ -38,7 +38,7 @@ returns-in-None c =
     let n : nameOf (c .in-Some .job .name) ≡ c .args .wanted .name .now = ap (λ (j : s.Job). j .name) (e .1) in
     let m : c .in-Some .job .most ≡ c .args .wanted .most = ap (λ (j : s.Job). j .most) (e .1) in
     let o : c .sum-of-mosts .result ≡ allMost (others (c .args .wanted .name .now) (jobsOf (c .args .home .now))) = c .sum-of-mosts .ensures ∙ ap (λ (x : s.Name). allMost (others x (jobsOf (c .args .home .now)))) n in
-    let t = c .if-job-sum-of-mosts .left in
+    let t = c .if-from .left in
     let f : find (isJob (c .args .wanted .name .now)) (jobsOf (c .args .home .now)) ≡ [] = ap (λ (x : s.Name). find (isJob x) (jobsOf (c .args .home .now))) (sym n) ∙ c .in-None .ensures tt in
     done-as (setsAs (jobOf (c .in-Some .job)) []) (acts (setCall w)) home (c .set-new .last .home) (c .set-new .result)
       (λ live time. set-found (w .name .now) (likeOf (w .like)) (w .count) (w .least) (w .most) home (e .0) (omega arith) [] f live time ∙ ap (λ (j : s.Job). setsAs j [] (stateOf home live time)) (sym (e .1))) (c .set-new .ensures)
@@ -52,7 +52,7 @@ returns-in-Some-find-job c =
     let n : nameOf (c .in-Some .job .name) ≡ c .args .wanted .name .now = ap (λ (j : s.Job). j .name) (e .1) in
     let m : c .in-Some .job .most ≡ c .args .wanted .most = ap (λ (j : s.Job). j .most) (e .1) in
     let o : c .sum-of-mosts .result ≡ allMost (others (c .args .wanted .name .now) (jobsOf (c .args .home .now))) = c .sum-of-mosts .ensures ∙ ap (λ (x : s.Name). allMost (others x (jobsOf (c .args .home .now)))) n in
-    let t = c .if-job-sum-of-mosts .left in
+    let t = c .if-from .left in
     let f : find (isJob (c .args .wanted .name .now)) (jobsOf (c .args .home .now)) ≡ p .0 ∷ [] = ap (λ (x : s.Name). find (isJob x) (jobsOf (c .args .home .now))) (sym n) ∙ p .3 in
     done-as (setsAs (jobOf (c .in-Some .job)) (p .0 ∷ [])) (acts (setCall w)) home (c .reset-job .last .home) (c .reset-job .result)
       (λ live time. set-found (w .name .now) (likeOf (w .like)) (w .count) (w .least) (w .most) home (e .0) (omega arith) (p .0 ∷ []) f live time ∙ ap (λ (j : s.Job). setsAs j (p .0 ∷ []) (stateOf home live time)) (sym (e .1)))
