@@ -3,6 +3,7 @@ pub mod Hearing
 pub mod Sweep
 pub mod TaskIn
 pub mod Doubting
+pub mod Adds
 pub mod Changes
 pub mod News
 pub mod Noted

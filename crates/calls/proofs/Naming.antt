@@ -21,7 +21,7 @@ digit bs r l u h = pick r h ∙ ap (λ (xs : List ℕ). getD xs r 0) (sym (bytes
     n = valueOf bs
 
     pick : (r : ℕ) → r < 8 →
-      n / 2 ^ (56 - 8 * r) % 256 ≡ getD (n / 72057594037927936 % 256 ∷ n / 281474976710656 % 256 ∷ n / 1099511627776 % 256 ∷ n / 4294967296 % 256 ∷ n / 16777216 % 256 ∷ n / 65536 % 256 ∷ n / 256 % 256 ∷ n % 256 ∷ []) r 0
+        n / 2 ^ (56 - 8 * r) % 256 ≡ getD (n / 72057594037927936 % 256 ∷ n / 281474976710656 % 256 ∷ n / 1099511627776 % 256 ∷ n / 4294967296 % 256 ∷ n / 16777216 % 256 ∷ n / 65536 % 256 ∷ n / 256 % 256 ∷ n % 256 ∷ []) r 0
     pick zero h = refl
     pick (suc zero) h = refl
     pick (suc (suc zero)) h = refl
@@ -57,5 +57,5 @@ byte p k l u h =
 pub named : (bs p : Bytes) → length p ≡ 64 → ((j : ℕ) → getD p j 0 < 256) → length bs ≤ 64 → take (length bs) p ≡ bs → bytesOf (length bs) (wordsOf p) ≡ bs
 named bs p l u h e =
     ext-getD 0 _ _ (length-bytes (length bs) (wordsOf p)) (λ k i.
-      let o : k < length bs = omega (arith, length-bytes (length bs) (wordsOf p)) in
-      getD-bytes (length bs) (wordsOf p) k o ∙ byte p k l u (omega arith) ∙ sym (getD-take (length bs) p k 0 o) ∙ ap (λ (xs : List ℕ). getD xs k 0) e)
+    let o : k < length bs = omega (arith, length-bytes (length bs) (wordsOf p)) in
+    getD-bytes (length bs) (wordsOf p) k o ∙ byte p k l u (omega arith) ∙ sym (getD-take (length bs) p k 0 o) ∙ ap (λ (xs : List ℕ). getD xs k 0) e)

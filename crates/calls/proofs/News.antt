@@ -40,7 +40,7 @@ module _ (r : Reported) (s : State) where
     stale m f g = acts-is ∙ rw (e, f, g)
 
     pub news : (m : Machine) → find (isMachine (r .machine .0)) (s .machines) ≡ m ∷ [] → staleFor r (m .life) (m .number) ≡ false →
-      acts (callOf (Report r)) s ≡ answersReport (r .machine .0) (r .number .0) (settle (heard (r .machine .0) (r .life .0) (r .number .0) (seensOf (r .tasks .now)) s))
+        acts (callOf (Report r)) s ≡ answersReport (r .machine .0) (r .number .0) (settle (heard (r .machine .0) (r .life .0) (r .number .0) (seensOf (r .tasks .now)) s))
     unfolding reports
     news m f g = acts-is ∙ rw (e, f, g)
 

@@ -26,7 +26,7 @@ pub state-is : (home live : List ℕ) (time : ℕ) (s : s.State) → at home 0 +
 state-is home live time s a b c d e = λ i. record { now = e i; nextId = a i; machines = b i; jobs = c i; tasks = d i }
 
 module _ (k l n i time : ℕ) (xs : List Seen) (home live h1 l1 h2 l2 : List ℕ) (fits : 68104 ≤ length home) (fine : Fine (stateOf home live time)) (there : HeardIn k i home live)
-  (a : TasksNow (heardAll k l xs (tasksOf home live)) home live h1 l1) where
+    (a : TasksNow (heardAll k l xs (tasksOf home live)) home live h1 l1) where
   pub within : i < machineRows h1
   within = let e = machine-rows-same home live h1 l1 fits (a .frame) in let h = there .1 in omega arith
 
@@ -43,7 +43,7 @@ module _ (k l n i time : ℕ) (xs : List Seen) (home live h1 l1 h2 l2 : List ℕ
   heard-there : machinesWith h1 l1 i (map (heardFrom l n time) (machineAt h1 l1 i)) ≡ change (isMachine k) (heardFrom l n time) (machinesOf home live)
   heard-there =
       change-found (isMachine k) (heardFrom l n time) (machineAt h1 l1) (machineRows h1) i (there .0) within (same i (let h = there .1 in omega arith) ∙ there .2) (there .3)
-        (ap (find (isMachine k)) (span-same (machineAt h1 l1) (machineAt home live) 0 i (λ j p q. same j (let h = there .1 in omega arith))) ∙ there .4)
+      (ap (find (isMachine k)) (span-same (machineAt h1 l1) (machineAt home live) 0 i (λ j p q. same j (let h = there .1 in omega arith))) ∙ there .4)
       ∙ ap (change (isMachine k) (heardFrom l n time)) machines
 
   module _ (b : MachinesNow (machinesWith h1 l1 i (map (heardFrom l n time) (machineAt h1 l1 i))) h1 l1 h2 l2) where

@@ -29,7 +29,7 @@ acted-yes c home live home' live' time time' u h e = record { state = e ∙ sym 
 
 -- a report was answered
 pub acted-run : (r : Reported) (home live home' live' : List ℕ) (time : ℕ) (u : State) → m.acts (callOf (Report r)) (stateOf home live time) ≡ m.answersReport (r .machine .0) (r .number .0) u → stateOf home' live' time ≡ u →
-  Acted (callOf (Report r)) home live time (Run (record { machine = r .machine; life = r .life; number = r .number })) home' live' time
+    Acted (callOf (Report r)) home live time (Run (record { machine = r .machine; life = r .life; number = r .number })) home' live' time
 acted-run r home live home' live' time u h e =
     record {
       state = e ∙ sym (ap (λ (o : m.Out). o .state) h);

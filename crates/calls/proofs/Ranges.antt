@@ -32,7 +32,7 @@ every-from p (x ∷ xs) h = rw (h 0 (omega arith)) (every-from p xs (λ k l. h (
 pub bytes-ok : (n : ℕ) (ws bs : List ℕ) → bytesOf n ws ≡ bs → every (λ (b : ℕ). ltb b 256) bs ≡ true
 bytes-ok n ws bs e =
     ap (every (λ (b : ℕ). ltb b 256)) (sym e) ∙ every-from (λ (b : ℕ). ltb b 256) (bytesOf n ws) (λ k l. let o : k < n = omega (arith, length-bytes n ws) in
-      lt-ltb (getD (bytesOf n ws) k 0) 256 (let g = getD-bytes n ws k o in omega arith))
+    lt-ltb (getD (bytesOf n ws) k 0) 256 (let g = getD-bytes n ws k o in omega arith))
 
 pub length-tags : (n : ℕ) (bs : Bytes) → length (tagsIn n bs) ≡ n
 unfolding tagsIn

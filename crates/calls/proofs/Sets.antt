@@ -41,8 +41,8 @@ module _ (j : s.Job) (home : List ℕ) where
   unfolding setsJob
   adds h v home' n =
       begins (setsAs j []) (jobsOf home ++ (j ∷ [])) home home' n (λ live time.
-        let l = ltb-true (length (jobsOf home)) 256 h in
-        rw (lt-leb 256 (length (jobsOf home)) l) (λ i. yes' (withJobs (jobsOf home ++ (record { name = j .name; version = sym v i; spec = j .spec; count = j .count; least = j .least; most = j .most } ∷ [])) (stateOf home live time))))
+      let l = ltb-true (length (jobsOf home)) 256 h in
+      rw (lt-leb 256 (length (jobsOf home)) l) (λ i. yes' (withJobs (jobsOf home ++ (record { name = j .name; version = sym v i; spec = j .spec; count = j .count; least = j .least; most = j .most } ∷ [])) (stateOf home live time))))
 
 -- ONE THAT IS THERE
 
@@ -60,11 +60,11 @@ module _ (j x : s.Job) (home : List ℕ) where
   reset-full e live time = rw e
 
   pub resets : (i : ℕ) → i < jobRows home → jobAt home i ≡ x ∷ [] → isJob (j .name) x ≡ true → find (isJob (j .name)) (span (jobAt home) 0 i) ≡ [] → noneLeft (sameSpec (j .spec) (x .spec)) (x .version) ≡ false → (k : s.Job) → resetJob (j .name) (j .spec) (j .count) (j .least) (j .most) x ≡ k →
-    (home' : List ℕ) → JobsNow (jobsWith home i (k ∷ [])) home home' → Begins (setsAs j (x ∷ [])) home home'
+      (home' : List ℕ) → JobsNow (jobsWith home i (k ∷ [])) home home' → Begins (setsAs j (x ∷ [])) home home'
   unfolding setsJob
   resets i h a q f e k g home' n =
       let there : jobsWith home i (k ∷ []) ≡ change (isJob (j .name)) (resetJob (j .name) (j .spec) (j .count) (j .least) (j .most)) (jobsOf home) =
-          ap (jobsWith home i) (sym (ap (map (resetJob (j .name) (j .spec) (j .count) (j .least) (j .most))) a ∙ ap (λ (y : s.Job). y ∷ []) g)) ∙ change-found (isJob (j .name)) (resetJob (j .name) (j .spec) (j .count) (j .least) (j .most)) (jobAt home) (jobRows home) i x h a q f in
+      ap (jobsWith home i) (sym (ap (map (resetJob (j .name) (j .spec) (j .count) (j .least) (j .most))) a ∙ ap (λ (y : s.Job). y ∷ []) g)) ∙ change-found (isJob (j .name)) (resetJob (j .name) (j .spec) (j .count) (j .least) (j .most)) (jobAt home) (jobRows home) i x h a q f in
       begins (setsAs j (x ∷ [])) (jobsWith home i (k ∷ [])) home home' n (λ live time. rw (e, ← there))
 
 -- THE CALL

@@ -1,7 +1,7 @@
 // Adding a machine.
 ghost use mathlib.Core.Path.{_≡_};
-ghost use Prim.Native.Nat.{ℕ, _/_, _<_, _≤_};
-ghost use lib.ListN.{getD, length, take};
+ghost use Prim.Native.Nat.{ℕ, _/_, _≤_};
+ghost use lib.ListN.{length, take};
 ghost use Rattle.model.proofs.Settles.{Fine};
 ghost use Rattle.jobs.specs.Layout.{homeWords, liveWords};
 ghost use Rattle.jobs.specs.Tables.{stateOf};
@@ -34,12 +34,16 @@ fn machine(added: Added) -> Machine
     ensures cpu { λ r. ⌜ r .cpu ≡ added .entry .cpu ⌝ }
     ensures mem { λ r. ⌜ r .mem ≡ added .entry .mem ⌝ }
     ensures tags { λ r. ⌜ take (r .count) (r .tags) ≡ tagsOf (now (added .entry .tags)) ⌝ }
-    ensures small { λ r. ⌜ ((k : ℕ) → getD (r .tags) k 0 < 4294967296) ⌝ }
-    ensures short { λ r. ⌜ r .num .0 < 65536 ⌝ }
 {
     let mut tags = [0; 16];
     put_tags(&mut tags, added.tags);
-    Machine { num: added.machine, cpu: added.cpu, mem: added.mem, count: (added.tags.len() / 4) as u8, tags }
+    Machine {
+        num: added.machine,
+        cpu: added.cpu,
+        mem: added.mem,
+        count: (added.tags.len() / 4) as u8,
+        tags,
+    }
 }
 
 // The machine comes, behind the others; or why not.

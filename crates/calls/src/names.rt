@@ -25,6 +25,15 @@ pub fn name_of(bytes: &[u8]) -> Option<Name>
     let all = padded(bytes);
     Some(Name {
         len: bytes.len() as u8,
-        words: [u64_at(&all, 0), u64_at(&all, 8), u64_at(&all, 16), u64_at(&all, 24), u64_at(&all, 32), u64_at(&all, 40), u64_at(&all, 48), u64_at(&all, 56)],
+        words: [
+            u64_at(&all, 0),
+            u64_at(&all, 8),
+            u64_at(&all, 16),
+            u64_at(&all, 24),
+            u64_at(&all, 32),
+            u64_at(&all, 40),
+            u64_at(&all, 48),
+            u64_at(&all, 56),
+        ],
     })
 }

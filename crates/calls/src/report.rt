@@ -82,7 +82,11 @@ pub fn report<'a>(home: &mut [u64], live: &mut [u64], time: u64, report: Reporte
         Err(why) => Answer::TurnedAway(why),
         Ok(i) => {
             take(home, live, time, i, report);
-            Answer::Run(RunOn { machine: report.machine, life: report.life, number: report.number })
+            Answer::Run(RunOn {
+                machine: report.machine,
+                life: report.life,
+                number: report.number,
+            })
         }
     }
 }

@@ -31,7 +31,11 @@ fn set_new(home: &mut [u64], job: Job) -> Option<Refusal>
     requires version { ⌜ job .version .0 ≡ 1 ⌝ }
     ensures { λ r. ⌜ DoneAs (setsAs (jobOf job) []) (now (home .entry)) (now (home .exit)) r ⌝ }
 {
-    if add_job(home, job) { None } else { Some(Refusal::Full) }
+    if add_job(home, job) {
+        None
+    } else {
+        Some(Refusal::Full)
+    }
 }
 
 // The job in row `i`, the first of that name, set anew.

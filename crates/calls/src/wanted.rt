@@ -54,5 +54,12 @@ pub fn job_of(wanted: Wanted) -> Option<Job>
     if wanted.least == wanted.count && wanted.count == wanted.most && wanted.count != 0 {
         return None;
     }
-    Some(Job { name, version: Version(1), spec, count: wanted.count, least: wanted.least, most: wanted.most })
+    Some(Job {
+        name,
+        version: Version(1),
+        spec,
+        count: wanted.count,
+        least: wanted.least,
+        most: wanted.most,
+    })
 }

@@ -102,10 +102,10 @@ module _ {C R X : Type 0} (j : Meant C R) (v : Server C R X) (Stands : X → j .
         wakes = λ m s t. let g = wakes-go m s t in (goes-fits (λ n. Dark n s) (λ x n. Up x n s) (waysOf v .wakes) m g, goes-end (λ n. Dark n s) (λ x n. Up x n s) (waysOf v .wakes) m g);
         cutWaking = λ m n s t h. goes-half (λ n. Dark n s) (λ x n. Up x n s) h (wakes-go m s t);
         answers = λ x m s c d a o.
-          let g = subst (λ (p : Doing (Said R X)). Goes (Cut c x s (a .stands) (o .0) (o .1) (o .2)) (Done c x s (a .stands) (o .0) (o .1) (o .2)) p m) (sym (o .3)) (does-go c x s (a .stands) (o .0) (o .1) (o .2) m (a .held)) in
-          (goes-fits (Cut c x s (a .stands) (o .0) (o .1) (o .2)) (Done c x s (a .stands) (o .0) (o .1) (o .2)) d m g, goes-end (Cut c x s (a .stands) (o .0) (o .1) (o .2)) (Done c x s (a .stands) (o .0) (o .1) (o .2)) d m g);
+            let g = subst (λ (p : Doing (Said R X)). Goes (Cut c x s (a .stands) (o .0) (o .1) (o .2)) (Done c x s (a .stands) (o .0) (o .1) (o .2)) p m) (sym (o .3)) (does-go c x s (a .stands) (o .0) (o .1) (o .2) m (a .held)) in
+            (goes-fits (Cut c x s (a .stands) (o .0) (o .1) (o .2)) (Done c x s (a .stands) (o .0) (o .1) (o .2)) d m g, goes-end (Cut c x s (a .stands) (o .0) (o .1) (o .2)) (Done c x s (a .stands) (o .0) (o .1) (o .2)) d m g);
         cutAnswering = λ x m n s c d a o h.
-          goes-half (Cut c x s (a .stands) (o .0) (o .1) (o .2)) (Done c x s (a .stands) (o .0) (o .1) (o .2)) h
+            goes-half (Cut c x s (a .stands) (o .0) (o .1) (o .2)) (Done c x s (a .stands) (o .0) (o .1) (o .2)) h
             (subst (λ (p : Doing (Said R X)). Goes (Cut c x s (a .stands) (o .0) (o .1) (o .2)) (Done c x s (a .stands) (o .0) (o .1) (o .2)) p m) (sym (o .3)) (does-go c x s (a .stands) (o .0) (o .1) (o .2) m (a .held)));
         goesDark = λ x m s a. goes-dark x m s (a .stands) (a .held);
       }

@@ -15,7 +15,11 @@ use crate::machine::Machine;
 fn version_word(version: Version) -> u64
     ensures { λ r. ⌜ r ≡ versionWord (version .0) ⌝ }
 {
-    if version.0 == 0 { 4294967296 } else { version.0 as u64 }
+    if version.0 == 0 {
+        4294967296
+    } else {
+        version.0 as u64
+    }
 }
 
 // The words of a job's row.

@@ -24,6 +24,6 @@ returns c =
     let e = c .later-of-then .ensures in
     record {
       told = acted-yes (Tick (c .args .ms)) (c .args .home .now) (c .args .live .now) _ _ (c .args .time) (c .later-of-then .result) (settle (timed (c .later-of-then .result) (stateOf (c .args .home .now) (c .args .live .now) (c .args .time))))
-        (tick-yes (c .args .ms) _ (c .if-ms-eq0 .left) (c .if-ms-gt-LAST .left) ∙ ap (λ (t : ℕ). yes' (timed t (stateOf (c .args .home .now) (c .args .live .now) (c .args .time)))) (sym e)) (c .go-on .ensures .state);
+          (tick-yes (c .args .ms) _ (c .if-ms-eq0 .left) (c .if-ms-gt-LAST .left) ∙ ap (λ (t : ℕ). yes' (timed t (stateOf (c .args .home .now) (c .args .live .now) (c .args .time)))) (sym e)) (c .go-on .ensures .state);
       long = c .go-on .ensures .long;
     }

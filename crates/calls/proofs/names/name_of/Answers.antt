@@ -15,5 +15,5 @@ returns c =
     let long : length p ≡ 64 = search needs in
     let small : (j : ℕ) → getD p j 0 < 256 = search needs in
     let ws : c .u64-at .result ∷ c .u64-at-2 .result ∷ c .u64-at-3 .result ∷ c .u64-at-4 .result ∷ c .u64-at-5 .result ∷ c .u64-at-6 .result ∷ c .u64-at-7 .result ∷ c .u64-at-8 .result ∷ [] ≡ wordsOf p =
-        λ i. c .u64-at .ensures i ∷ c .u64-at-2 .ensures i ∷ c .u64-at-3 .ensures i ∷ c .u64-at-4 .ensures i ∷ c .u64-at-5 .ensures i ∷ c .u64-at-6 .ensures i ∷ c .u64-at-7 .ensures i ∷ c .u64-at-8 .ensures i ∷ [] in
+    λ i. c .u64-at .ensures i ∷ c .u64-at-2 .ensures i ∷ c .u64-at-3 .ensures i ∷ c .u64-at-4 .ensures i ∷ c .u64-at-5 .ensures i ∷ c .u64-at-6 .ensures i ∷ c .u64-at-7 .ensures i ∷ c .u64-at-8 .ensures i ∷ [] in
     (name-ok (length (c .args .bytes .now)) (c .if-bytes-eq0 .left) (omega arith), ap (bytesOf (length (c .args .bytes .now))) ws ∙ named (c .args .bytes .now) p long small (omega arith) (c .padded-all .ensures))

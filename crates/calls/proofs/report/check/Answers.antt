@@ -18,9 +18,10 @@ returns-then-stale c = λ live time.
 
 pub returns : need.returns
 returns c = λ live time.
-    let f = c .in-Some .ensures tt live in let w = row-news (c .args .home .now) live (c .machine-row-row .result .now) (c .in-Some .i) (f .0) (c .machine-row-row .ensures .is) (f .2) in
-    ((f .0, f .1, f .2, f .4, f .5),
-      news (c .args .report) _ (sym (c .out-of-range .ensures) ∙ c .if-out-of-range .left) (f .0) (f .3) (sym (same-stale (c .args .report) _ _ _ _ (w .0) (w .1)) ∙ sym (c .stale .ensures) ∙ c .if-stale .left))
+    let f = c .in-Some .ensures tt live in let w = row-news (c .args .home .now) live (c .machine-row-row .result .now) (c .in-Some .i) (f .0) (c .machine-row-row .ensures .is) (f .2) in (
+      (f .0, f .1, f .2, f .4, f .5),
+      news (c .args .report) _ (sym (c .out-of-range .ensures) ∙ c .if-out-of-range .left) (f .0) (f .3) (sym (same-stale (c .args .report) _ _ _ _ (w .0) (w .1)) ∙ sym (c .stale .ensures) ∙ c .if-stale .left),
+    )
 
 pub machine-row-row-requires : need.machine-row-row-requires
 machine-row-row-requires c κs = record { words = c .pre; within = let f = c .in-Some .ensures tt [] in omega (arith, f .1) }

@@ -25,7 +25,7 @@ returns-in-Some c = λ x e q f.
     let j = c .args .job in
     let r : jobFrom (c .job-row .result .now) ≡ x = ap jobFrom (c .job-row .ensures .is) ∙ row-is (c .args .home .now) (c .args .i) x e in
     let v : c .in-Some .version .0 ≡ cond (sameSpec (specOf (c .args .job .spec)) (x .spec)) (x .version) (x .version + 1) =
-        subst (λ (y : s.Job). c .in-Some .version .0 ≡ cond (sameSpec (specOf (c .args .job .spec)) (y .spec)) (y .version) (y .version + 1)) r (c .in-Some .ensures tt .1) in
+    subst (λ (y : s.Job). c .in-Some .version .0 ≡ cond (sameSpec (specOf (c .args .job .spec)) (y .spec)) (y .version) (y .version + 1)) r (c .in-Some .ensures tt .1) in
     resets (jobOf j) x (c .args .home .now) (c .args .i) (c .pre .within) e q f (subst (λ (y : s.Job). noneLeft (sameSpec (specOf (c .args .job .spec)) (y .spec)) (y .version) ≡ false) r (c .in-Some .ensures tt .0)) _
-      (λ i. record { name = nameOf (c .args .job .name); version = sym v i; spec = specOf (c .args .job .spec); count = c .args .job .count; least = c .args .job .least; most = c .args .job .most })
-      (c .put-job .last .home) (c .put-job .ensures)
+    (λ i. record { name = nameOf (c .args .job .name); version = sym v i; spec = specOf (c .args .job .spec); count = c .args .job .count; least = c .args .job .least; most = c .args .job .most })
+    (c .put-job .last .home) (c .put-job .ensures)

@@ -41,7 +41,7 @@ returns-in-None c =
     let t = c .if-from .left in
     let f : find (isJob (c .args .wanted .name .now)) (jobsOf (c .args .home .now)) ≡ [] = ap (λ (x : s.Name). find (isJob x) (jobsOf (c .args .home .now))) (sym n) ∙ c .in-None .ensures tt in
     done-as (setsAs (jobOf (c .in-Some .job)) []) (acts (setCall w)) home (c .set-new .last .home) (c .set-new .result)
-      (λ live time. set-found (w .name .now) (likeOf (w .like)) (w .count) (w .least) (w .most) home (e .0) (omega arith) [] f live time ∙ ap (λ (j : s.Job). setsAs j [] (stateOf home live time)) (sym (e .1))) (c .set-new .ensures)
+    (λ live time. set-found (w .name .now) (likeOf (w .like)) (w .count) (w .least) (w .most) home (e .0) (omega arith) [] f live time ∙ ap (λ (j : s.Job). setsAs j [] (stateOf home live time)) (sym (e .1))) (c .set-new .ensures)
 
 pub returns-in-Some-find-job : need.returns-in-Some-find-job
 returns-in-Some-find-job c =
@@ -55,5 +55,5 @@ returns-in-Some-find-job c =
     let t = c .if-from .left in
     let f : find (isJob (c .args .wanted .name .now)) (jobsOf (c .args .home .now)) ≡ p .0 ∷ [] = ap (λ (x : s.Name). find (isJob x) (jobsOf (c .args .home .now))) (sym n) ∙ p .3 in
     done-as (setsAs (jobOf (c .in-Some .job)) (p .0 ∷ [])) (acts (setCall w)) home (c .reset-job .last .home) (c .reset-job .result)
-      (λ live time. set-found (w .name .now) (likeOf (w .like)) (w .count) (w .least) (w .most) home (e .0) (omega arith) (p .0 ∷ []) f live time ∙ ap (λ (j : s.Job). setsAs j (p .0 ∷ []) (stateOf home live time)) (sym (e .1)))
-      (c .reset-job .ensures (p .0) (p .2) (p .4) (p .5))
+    (λ live time. set-found (w .name .now) (likeOf (w .like)) (w .count) (w .least) (w .most) home (e .0) (omega arith) (p .0 ∷ []) f live time ∙ ap (λ (j : s.Job). setsAs j (p .0 ∷ []) (stateOf home live time)) (sym (e .1)))
+    (c .reset-job .ensures (p .0) (p .2) (p .4) (p .5))

@@ -22,13 +22,13 @@ pub returns-then-doubtful : need.returns-then-doubtful
 returns-then-doubtful c =
     put-as _ _ _ _ (c .args .i) _ _
     (changed _ (c .args .live .now) (c .task-row-row .result .now) (c .args .i) (c .task-row-row .ensures .is) (c .phase-from-phase .result) (c .phase-from-phase .ensures .phase) (c .phase-from-phase .ensures .machine) (c .phase-from-phase .ensures .life) (c .if-row-eq0 .left)
-      (map (unsure (c .args .time) (machinesOf (c .args .home .now) (c .args .live .now)))) (markEach false)
-      (λ t p i m l. doubt-it _ _ t (same-test _ _ t _ _ p m ∙ sym (c .doubtful .ensures) ∙ c .if-doubtful .taken)))
+    (map (unsure (c .args .time) (machinesOf (c .args .home .now) (c .args .live .now)))) (markEach false)
+    (λ t p i m l. doubt-it _ _ t (same-test _ _ t _ _ p m ∙ sym (c .doubtful .ensures) ∙ c .if-doubtful .taken)))
     (c .mark-task .ensures (c .args .home .now) (c .pre .words))
 
 pub returns-else-doubtful : need.returns-else-doubtful
 returns-else-doubtful c =
     put-same _ _ (c .args .i) _
     (changed _ (c .args .live .now) (c .task-row-row .result .now) (c .args .i) (c .task-row-row .ensures .is) (c .phase-from-phase .result) (c .phase-from-phase .ensures .phase) (c .phase-from-phase .ensures .machine) (c .phase-from-phase .ensures .life) (c .if-row-eq0 .left)
-      (map (unsure (c .args .time) (machinesOf (c .args .home .now) (c .args .live .now)))) (λ xs. xs)
-      (λ t p i m l. doubt-not _ _ t (same-test _ _ t _ _ p m ∙ sym (c .doubtful .ensures) ∙ c .if-doubtful .left)))
+    (map (unsure (c .args .time) (machinesOf (c .args .home .now) (c .args .live .now)))) (λ xs. xs)
+    (λ t p i m l. doubt-not _ _ t (same-test _ _ t _ _ p m ∙ sym (c .doubtful .ensures) ∙ c .if-doubtful .left)))
