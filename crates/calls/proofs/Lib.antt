@@ -8,3 +8,6 @@ pub mod News
 pub mod Noted
 pub mod Outcomes
 pub mod Timed
+pub mod Different
+pub mod Rises
+pub mod Soundness

@@ -5,3 +5,4 @@ pub mod Answers
 pub mod Acted
 pub mod Reports
 pub mod Times
+pub mod Sound

@@ -6,4 +6,5 @@ pub mod heard;
 pub mod outcome;
 pub mod report;
 pub mod seen;
+pub mod sound;
 pub mod sweeps;
