@@ -1,19 +1,19 @@
 -- Rows of which no two are alike by a test: each is the first of its kind.
 -- Assumes nothing.
 use mathlib.Core.Path.{_≡_, refl, sym, ap, subst, _∙_}
-use mathlib.Core.Logic.{_⊎_, inl, inr}
+use mathlib.Core.Logic.{inl, inr}
 use mathlib.Core.Bool.{Bool, true, false, cond, not, _&&_}
 use mathlib.Core.List.{List, [], _∷_, _++_}
 use Prim.Native.Nat.{ℕ, _+_, _-_, _%_, _<_}
 use native.Mathlib.Omega.{arith}
 use lib.Dec.{eqb}
 use lib.ListN.{take}
+use Rattle.std.specs.declared.option.Option.{Option}
 use Rattle.std.specs.declared.option.Option.the-variants.{Some, None}
 use Rattle.std.proofs.shelf.Tests.{not-true, eq-eqb, ne-eqb, cases-lt}
-use Rattle.model.specs.Lists.{some, every, find}
+use Rattle.model.specs.Lists.{some, every, find, same}
 use Rattle.model.specs.State as s
 use Rattle.model.specs.State.{isJob, isMachine}
-use Rattle.model.specs.Lists.{same}
 use Rattle.model.specs.Promise.{onceJobs, onceMachines}
 use Rattle.model.proofs.Lists.{clash, bool, In, every-at, every-from, some-from, some-not, not-some, find-none, Once, once-append}
 use Rattle.model.proofs.Settles.{jobs-from, jobs-to, machines-from, machines-to}
@@ -22,7 +22,7 @@ use Rattle.jobs.specs.Rows.{at, span}
 use Rattle.jobs.specs.Tables.{FoundAt, nameFrom, jobAt, jobFrom, jobRow, jobRows, jobSlot, jobsOf, machineAt, machineFrom, machineRow, machineRows, machineSlot, machinesOf}
 use Rattle.jobs.proofs.Spans.{span-none, span-more, span-at}
 use Rattle.jobs.proofs.Finds.{slot-hole, slot-full}
-use Rattle.calls.specs.Sound.{firstJob, firstMachine}
+use Rattle.calls.specs.Sound.{firstJob, firstMachine, foundIn}
 
 in-front : {A : Type 0} (a : A) (xs ys : List A) → In a xs → In a (xs ++ ys)
 in-front a [] ys i = absurd i
@@ -37,6 +37,11 @@ once-cross : {A : Type 0} (e : A → A → Bool) (xs ys : List A) → Once e (xs
 once-cross e [] ys o x y i k = absurd i
 once-cross e (z ∷ zs) ys o x y (inl p) k = ap (λ w. e w y) p ∙ o .0 y (in-back y zs ys k)
 once-cross e (z ∷ zs) ys o x y (inr i) k = once-cross e zs ys (o .1) x y i k
+
+-- a row holds one at most
+once-slot : {A : Type 0} (e : A → A → Bool) (b : Bool) (x : A) → Once e (cond b [] (x ∷ []))
+once-slot e true x = tt
+once-slot e false x = (λ y k. absurd k, tt)
 
 module _ {X : Type 0} (e : X → X → Bool) (turn : (a b : X) → e a b ≡ false → e b a ≡ false) (f : ℕ → List X) where
   -- what is in row i is like nothing in the rows before
@@ -66,19 +71,22 @@ module _ {X : Type 0} (e : X → X → Bool) (turn : (a b : X) → e a b ≡ fal
   in-span i n x h p = subst (In x) (sym (span-at f i n h)) (in-back x (span f 0 i) _ (in-front x (f i) _ (subst (In x) (sym p) (inl refl))))
 
   module _ (i n : ℕ) (x : X) (h : i < n) (p : f i ≡ x ∷ []) (r : e x x ≡ true) where
-    -- the first that is found like it is itself, or one before
-    pub new-found : (k : ℕ) → FoundAt (e x) f n (Some k) → eqb k i ≡ New i
-    new-found k w = elim (cases-lt k i) [ inl a ↦ before a | inr b ↦ elim (cases-lt i k) [ inl a ↦ behind a | inr c ↦ itself (omega arith) ] ]
+    new-some : (k : ℕ) → FoundAt (e x) f n (Some k) → eqb k i ≡ New i
+    new-some k w = elim (cases-lt k i) [ inl a ↦ before a | inr b ↦ elim (cases-lt i k) [ inl a ↦ behind a | inr c ↦ itself (omega arith) ] ]
       where
         before : k < i → eqb k i ≡ New i
         before a = ne-eqb k i (λ q. omega arith) ∙ new-one i x true p (some-from (e x) (span f 0 i) (w .0) (in-span k i (w .0) a (w .2)) (w .4))
+
         behind : i < k → eqb k i ≡ New i
         behind a = clash (e x x) r (find-none (e x) (span f 0 k) (w .5) x (in-span i k x a p))
+
         itself : k ≡ i → eqb k i ≡ New i
         itself q = eq-eqb k i q ∙ new-one i x false p (not-some (e x) (span f 0 i) (λ y j. find-none (e x) (span f 0 i) (ap (λ (z : ℕ). find (e x) (span f 0 z)) (sym q) ∙ w .5) y j))
 
-    pub new-lost : FoundAt (e x) f n None → false ≡ New i
-    new-lost w = clash (e x x) r (find-none (e x) (span f 0 n) w x (in-span i n x h p))
+    -- the first that is found like it is itself, or one before
+    pub new-found : (o : Option ℕ) → FoundAt (e x) f n o → foundIn i o ≡ New i
+    new-found (Some k) w = new-some k w
+    new-found None w = clash (e x x) r (find-none (e x) (span f 0 n) w x (in-span i n x h p))
 
 -- JOBS
 
@@ -95,21 +103,17 @@ pub job-hole : (home row : List ℕ) (i : ℕ) → row ≡ jobRow home i → at 
 job-hole home row i q z = new-hole alikeJobs turn-jobs (jobAt home) i (ap jobSlot (sym q) ∙ slot-hole (at row 0) (jobFrom row) z)
 
 module _ (home row : List ℕ) (i : ℕ) (n : s.Name) (h : i < jobRows home) (q : row ≡ jobRow home i) (ne : at row 0 ≡ 0 → ⊥) (named : n ≡ nameFrom (take 23 row)) where
-  pub job-found : (k : ℕ) → FoundAt (isJob n) (jobAt home) (jobRows home) (Some k) → eqb k i ≡ firstJob home i
-  job-found k w = new-found alikeJobs turn-jobs (jobAt home) i (jobRows home) (jobFrom row) h (job-in home row i q ne) (same-refl (jobFrom row .name)) k (subst (λ (m : s.Name). FoundAt (isJob m) (jobAt home) (jobRows home) (Some k)) named w)
-
-  pub job-lost : FoundAt (isJob n) (jobAt home) (jobRows home) None → false ≡ firstJob home i
-  job-lost w = new-lost alikeJobs turn-jobs (jobAt home) i (jobRows home) (jobFrom row) h (job-in home row i q ne) (same-refl (jobFrom row .name)) (subst (λ (m : s.Name). FoundAt (isJob m) (jobAt home) (jobRows home) None) named w)
-
-one-job : (home : List ℕ) (i : ℕ) → Once alikeJobs (jobAt home i)
-one-job home i = elim (bool (eqb (at (jobRow home i) 0) 0)) [ inl t ↦ subst (Once alikeJobs) (sym (ap (λ (b : Bool). cond b [] (jobFrom (jobRow home i) ∷ [])) t)) tt | inr n ↦ subst (Once alikeJobs) (sym (ap (λ (b : Bool). cond b [] (jobFrom (jobRow home i) ∷ [])) n)) (λ y k. absurd k, tt) ]
+  pub job-found : (o : Option ℕ) → FoundAt (isJob n) (jobAt home) (jobRows home) o → foundIn i o ≡ firstJob home i
+  job-found o w =
+      new-found alikeJobs turn-jobs (jobAt home) i (jobRows home) (jobFrom row) h (job-in home row i q ne) (same-refl (jobFrom row .name)) o
+      (subst (λ (m : s.Name). FoundAt (isJob m) (jobAt home) (jobRows home) o) named w)
 
 pub jobs-none : (home : List ℕ) → onceJobs (span (jobAt home) 0 0) ≡ true
 unfolding onceJobs
 jobs-none home = ap onceJobs (span-none (jobAt home) 0)
 
 pub jobs-more : (home : List ℕ) (i : ℕ) → onceJobs (span (jobAt home) 0 i) ≡ true → firstJob home i ≡ true → onceJobs (span (jobAt home) 0 (i + 1)) ≡ true
-jobs-more home i o t = jobs-to _ (new-more alikeJobs turn-jobs (jobAt home) i (jobs-from _ o) (one-job home i) t)
+jobs-more home i o t = jobs-to _ (new-more alikeJobs turn-jobs (jobAt home) i (jobs-from _ o) (once-slot alikeJobs (eqb (at (jobRow home i) 0) 0) (jobFrom (jobRow home i))) t)
 
 pub jobs-all : (home : List ℕ) (i : ℕ) → i ≡ jobRows home → onceJobs (span (jobAt home) 0 i) ≡ true → true ≡ onceJobs (jobsOf home)
 jobs-all home i q o = sym o ∙ ap (λ (n : ℕ). onceJobs (span (jobAt home) 0 n)) q
@@ -132,23 +136,15 @@ pub machine-hole : (home row : List ℕ) (i : ℕ) → row ≡ machineRow home i
 machine-hole home row i q z = new-hole alikeMachines turn-machines (machineAt home []) i (ap (λ (r : List ℕ). machineSlot r (at [] i)) (sym q) ∙ slot-hole (at row 0) (machineFrom row (at [] i)) z)
 
 module _ (home row : List ℕ) (i : ℕ) (h : i < machineRows home) (q : row ≡ machineRow home i) (ne : at row 0 ≡ 0 → ⊥) where
-  pub machine-found : (k : ℕ) → FoundAt (isMachine (at row 1 % 65536)) (machineAt home []) (machineRows home) (Some k) → eqb k i ≡ firstMachine home i
-  machine-found k w = new-found alikeMachines turn-machines (machineAt home []) i (machineRows home) (machineFrom row (at [] i)) h (machine-in home row i q ne) (eq-eqb _ _ refl) k w
-
-  pub machine-lost : FoundAt (isMachine (at row 1 % 65536)) (machineAt home []) (machineRows home) None → false ≡ firstMachine home i
-  machine-lost w = new-lost alikeMachines turn-machines (machineAt home []) i (machineRows home) (machineFrom row (at [] i)) h (machine-in home row i q ne) (eq-eqb _ _ refl) w
-
-one-machine : (home : List ℕ) (i : ℕ) → Once alikeMachines (machineAt home [] i)
-one-machine home i =
-    let m = machineFrom (machineRow home i) (at [] i) in
-    elim (bool (eqb (at (machineRow home i) 0) 0)) [ inl t ↦ subst (Once alikeMachines) (sym (ap (λ (b : Bool). cond b [] (m ∷ [])) t)) tt | inr n ↦ subst (Once alikeMachines) (sym (ap (λ (b : Bool). cond b [] (m ∷ [])) n)) (λ y k. absurd k, tt) ]
+  pub machine-found : (o : Option ℕ) → FoundAt (isMachine (at row 1 % 65536)) (machineAt home []) (machineRows home) o → foundIn i o ≡ firstMachine home i
+  machine-found o w = new-found alikeMachines turn-machines (machineAt home []) i (machineRows home) (machineFrom row (at [] i)) h (machine-in home row i q ne) (eq-eqb _ _ refl) o w
 
 pub machines-none : (home : List ℕ) → onceMachines (span (machineAt home []) 0 0) ≡ true
 unfolding onceMachines
 machines-none home = ap onceMachines (span-none (machineAt home []) 0)
 
 pub machines-more : (home : List ℕ) (i : ℕ) → onceMachines (span (machineAt home []) 0 i) ≡ true → firstMachine home i ≡ true → onceMachines (span (machineAt home []) 0 (i + 1)) ≡ true
-machines-more home i o t = machines-to _ (new-more alikeMachines turn-machines (machineAt home []) i (machines-from _ o) (one-machine home i) t)
+machines-more home i o t = machines-to _ (new-more alikeMachines turn-machines (machineAt home []) i (machines-from _ o) (once-slot alikeMachines (eqb (at (machineRow home i) 0) 0) (machineFrom (machineRow home i) (at [] i))) t)
 
 pub machines-all : (home : List ℕ) (i : ℕ) → i ≡ machineRows home → onceMachines (span (machineAt home []) 0 i) ≡ true → true ≡ onceMachines (machinesOf home [])
 machines-all home i q o = sym o ∙ ap (λ (n : ℕ). onceMachines (span (machineAt home []) 0 n)) q

@@ -46,12 +46,13 @@ module _ (m last : ℕ) where
 slot-first : (r : List ℕ) (v : ℕ) (ts : List Task) → risingTasks 1 ts ≡ risingTasks 0 ts → risingTasks 1 (taskSlot r v ++ ts) ≡ risingTasks 0 (taskSlot r v ++ ts)
 unfolding risingTasks
 slot-first r v ts e =
-    elim (cases-bool (eqb (at r 0) 0))
-    [ inl t ↦ rw t e
-    | inr n ↦
-        let a : leb 1 (at r 0) ≡ true = le-leb 1 (at r 0) (let z = eqb-false (at r 0) 0 n in (omega arith)) in
-        let b : leb 0 (at r 0) ≡ true = le-leb 0 (at r 0) (omega arith) in
-        rw n (rw (a, b)) ]
+    elim (cases-bool (eqb (at r 0) 0)) [
+      | inl t ↦ rw t e
+      | inr n ↦
+          let a : leb 1 (at r 0) ≡ true = le-leb 1 (at r 0) (let z = eqb-false (at r 0) 0 n in (omega arith)) in
+          let b : leb 0 (at r 0) ≡ true = le-leb 0 (at r 0) (omega arith) in
+          rw n (rw (a, b))
+    ]
 
 rising-first : (home live : List ℕ) (i n : ℕ) → risingTasks 1 (span (taskAt home live) i n) ≡ risingTasks 0 (span (taskAt home live) i n)
 unfolding span risingTasks

@@ -7,13 +7,13 @@ use mathlib.Core.List.{List, [], _∷_, map}
 use Prim.Native.Nat.{ℕ, suc, _+_}
 use native.Mathlib.Omega.{arith}
 use lib.Dec.{eqb, leb, ltb}
-use lib.ListN.{length, replicate}
+use lib.ListN.{replicate}
 use Rattle.std.proofs.shelf.Tests.{and-parts, and-from, cases-bool, cases-lt}
 use Rattle.std.proofs.shelf.Lists.{getD-past, getD-replicate, length-replicate}
 use Rattle.model.specs.Lists.{some, every}
 use Rattle.model.specs.State.{Machine, Task, State, blank, isMachine, isReady}
 use Rattle.model.specs.Calls.{unheard, unready, down}
-use Rattle.model.specs.Promise.{onceJobs, onceMachines, risingTasks, Good}
+use Rattle.model.specs.Promise.{onceJobs, onceMachines, risingTasks}
 use Rattle.model.proofs.Lists.{to-true, from-true}
 use Rattle.model.proofs.Settles.{Fine, fine-from, fine-to}
 use Rattle.jobs.specs.Rows.{at}

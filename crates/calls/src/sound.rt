@@ -1,13 +1,14 @@
-// Are the home words such as calls leave them. The herd asks when it wakes: any other words are damaged.
+// Are the home words sound, as calls leave them: different names and numbers, and tasks by rising numbers that were given.
+// The herd asks when it wakes: words that aren't are damaged.
 ghost use mathlib.Core.Path.{_≡_};
-ghost use mathlib.Core.List.{List, []};
-ghost use Prim.Native.Nat.{ℕ, _<_, _≤_};
+ghost use mathlib.Core.List.{[]};
+ghost use Prim.Native.Nat.{_<_, _≤_};
 ghost use lib.ListN.{length};
 ghost use Rattle.model.specs.Promise.{onceJobs, onceMachines};
 ghost use Rattle.jobs.specs.Layout.{homeWords};
 ghost use Rattle.jobs.specs.Rows.{at};
 ghost use Rattle.jobs.specs.Tables.{jobRows, jobsOf, machineRows, machinesOf, tasksOf};
-ghost use Rattle.calls.specs.Sound.{firstJob, firstMachine, soundTasks, soundWords};
+ghost use Rattle.calls.specs.Sound.{firstJob, firstMachine, foundIn, soundTasks, soundWords};
 use jobs::finding::find_job;
 use jobs::finding::find_machine;
 use jobs::ids::MachineId;
@@ -20,6 +21,16 @@ use jobs::rows::machine_rows;
 use jobs::rows::task_row;
 use jobs::rows::task_rows;
 
+// Was it found in row `i`.
+fn found_in(found: Option<usize>, i: usize) -> bool
+    ensures { λ r. ⌜ r ≡ foundIn i found ⌝ }
+{
+    match found {
+        Some(k) => k == i,
+        None => false,
+    }
+}
+
 // Is the job in row `i`, if there is one, the first of its name.
 fn first_job(home: &[u64], i: usize) -> bool
     requires words { ⌜ homeWords ≤ length (now home) ⌝ }
@@ -30,10 +41,7 @@ fn first_job(home: &[u64], i: usize) -> bool
     if row[0] == 0 {
         return true;
     }
-    match find_job(home, &name_from(&row[0..23])) {
-        Some(k) => k == i,
-        None => false,
-    }
+    found_in(find_job(home, &name_from(&row[0..23])), i)
 }
 
 // Is the machine in row `i`, if there is one, the first of its number.
@@ -46,10 +54,7 @@ fn first_machine(home: &[u64], i: usize) -> bool
     if row[0] == 0 {
         return true;
     }
-    match find_machine(home, MachineId((row[1] % 65536) as u16)) {
-        Some(k) => k == i,
-        None => false,
-    }
+    found_in(find_machine(home, MachineId((row[1] % 65536) as u16)), i)
 }
 
 // Have all jobs different names.
@@ -96,7 +101,7 @@ fn sound_tasks(home: &[u64]) -> bool
     true
 }
 
-// Could calls have left these words.
+// Are the words sound: then, and only then, what they stand for is a good state, from which calls go on as promised.
 pub fn is_sound(home: &[u64]) -> bool
     requires { ⌜ homeWords ≤ length (now home) ⌝ }
     ensures { λ r. ⌜ r ≡ soundWords (now (home .entry)) ⌝ }

@@ -1,5 +1,4 @@
-use mathlib.Core.Path.{_≡_, sym, ap, _∙_}
-use Prim.Native.Nat.{ℕ}
+use mathlib.Core.Path.{sym, _∙_}
 use native.Mathlib.Omega.{arith}
 use Rattle.calls.proofs.Different.{machines-none, machines-more, machines-all, machines-twice}
 use Rattle.calls.proofs.sound.sound_machines.Needs as need
