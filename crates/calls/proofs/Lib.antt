@@ -16,3 +16,6 @@ pub mod Naming
 pub mod Ranges
 pub mod KindTags
 pub mod Sets
+pub mod Different
+pub mod Rises
+pub mod Soundness

@@ -1,9 +1,11 @@
--- Which home words came to be by calls: any others are damaged.
+-- What all home words have that came to be by calls. Words without it are damaged; words with it may still be others than were kept.
 -- Assumes nothing.
-use mathlib.Core.Bool.{Bool, _&&_, not}
+use mathlib.Core.Bool.{Bool, false, _&&_, not}
 use mathlib.Core.List.{List, []}
 use Prim.Native.Nat.{ℕ, _+_}
-use lib.Dec.{ltb}
+use lib.Dec.{eqb, ltb}
+use Rattle.std.specs.declared.option.Option.{Option}
+use Rattle.std.specs.declared.option.Option.the-variants.{Some, None}
 use Rattle.model.specs.Lists.{some, every}
 use Rattle.model.specs.State.{Machine, Job, Task, isJob, isMachine}
 use Rattle.model.specs.Promise.{onceJobs, onceMachines, risingTasks}
@@ -24,3 +26,8 @@ firstJob home i = every (λ (j : Job). not (some (isJob (j .name)) (span (jobAt 
 
 abbrev pub firstMachine : List ℕ → ℕ → Bool
 firstMachine home i = every (λ (m : Machine). not (some (isMachine (m .num)) (span (machineAt home []) 0 i))) (machineAt home [] i)
+
+-- it was found in row i
+abbrev pub foundIn : ℕ → Option ℕ → Bool
+foundIn i None = false
+foundIn i (Some k) = eqb k i

@@ -11,6 +11,7 @@ pub mod outcome;
 pub mod report;
 pub mod seen;
 pub mod setting;
+pub mod sound;
 pub mod sweeps;
 pub mod tags;
 pub mod versions;
