@@ -87,9 +87,9 @@ pub fn put_orders(out: &mut [u8], at: usize, home: &[u64], machine: MachineId) -
     ensures bytes { λ r. ⌜ ((live : List ℕ) → Puts (bytesOf 2 (length (orders (keep (onMachine (machine .0)) (tasksOf (now (home .entry)) live)))) ++ orderBytes (orders (keep (onMachine (machine .0)) (tasksOf (now (home .entry)) live)))) (now (out .entry)) (now (out .exit)) at r) ⌝ }
     ensures room { λ r. ⌜ r ≤ at + 110594 ⌝ }
 {
-    let listed = order_rows(out, at + 2, home, machine);
-    let _ = put_u16(out, at, listed.count);
-    listed.end
+    let orders = order_rows(out, at + 2, home, machine);
+    let _ = put_u16(out, at, orders.count);
+    orders.end
 }
 
 // The number that the bytes have for a phase.
@@ -163,7 +163,7 @@ pub fn put_lines(out: &mut [u8], at: usize, home: &[u64], live: &[u64], name: &[
     ensures room { λ r. ⌜ r ≤ at + 30722 ⌝ }
     ensures long { λ r. ⌜ (64 < length (now (name .entry)) → keep (ofJob (now (name .entry))) (tasksOf (now (home .entry)) (now (live .entry))) ≡ []) ⌝ }
 {
-    let listed = line_rows(out, at + 2, home, live, name);
-    let _ = put_u16(out, at, listed.count);
-    listed.end
+    let lines = line_rows(out, at + 2, home, live, name);
+    let _ = put_u16(out, at, lines.count);
+    lines.end
 }
