@@ -9,3 +9,4 @@ pub mod Ends
 pub mod Reads
 pub mod Puts
 pub mod Replied
+pub mod Listings
