@@ -7,4 +7,4 @@ pub mod Hexing
 pub mod Parsing
 pub mod Writing
 pub mod Naming
-pub mod Listing
+pub mod Listings

@@ -10,3 +10,4 @@ pub mod Reads
 pub mod Puts
 pub mod Replied
 pub mod Herd
+pub mod Listings

@@ -1,6 +1,6 @@
 -- Bytes written behind those that are written already.
 -- Assumes nothing.
-use mathlib.Core.List.{List, _++_}
+use mathlib.Core.List.{_++_}
 use mathlib.Core.Path.{_≡_}
 use Prim.Native.Nat.{ℕ, _+_}
 use lib.ListN.{length, take, drop}
@@ -12,8 +12,3 @@ pub record Puts (bs before after : Bytes) (n m : ℕ) : Type 0 where
   pub end : m ≡ n + length bs
   pub rest : drop m after ≡ drop m before
   pub long : length after ≡ length before
-
--- the same for things that are counted: c were written before, and these are d
-pub record Lists {X : Type 0} (f : List X → Bytes) (xs : List X) (before after : Bytes) (n c m d : ℕ) : Type 0 where
-  pub bytes : Puts (f xs) before after n m
-  pub count : d ≡ c + length xs

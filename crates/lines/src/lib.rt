@@ -3,6 +3,7 @@ pub mod answer;
 pub mod hex;
 pub mod line;
 pub mod list;
+pub mod listing;
 pub mod named;
 pub mod read;
 pub mod reader;

@@ -1,20 +1,23 @@
 // The answer to a call, in its frame, as bytes.
-ghost use mathlib.Core.List.{List, [], _∷_, _++_};
+ghost use mathlib.Core.List.{[]};
 ghost use mathlib.Core.Path.{_≡_};
-ghost use Prim.Native.Nat.{ℕ, _+_, _≤_};
+ghost use Prim.Native.Nat.{ℕ, _+_, _<_, _≤_};
 ghost use lib.ListN.{length, take};
 ghost use Rattle.model.specs.Lists.{keep};
-ghost use Rattle.model.specs.State.{onMachine};
-ghost use Rattle.model.specs.Calls.{orders};
-ghost use Rattle.model.specs.Wire.{Runs, answerBytes};
+ghost use Rattle.model.specs.State.{ofJob, onMachine};
+ghost use Rattle.model.specs.Calls.{linesOf, orders};
+ghost use Rattle.model.specs.Wire.{Runs, Shown, answerBytes};
 ghost use Rattle.model.specs.Lines.{framed};
 ghost use Rattle.jobs.specs.Layout.{homeWords, liveWords};
 ghost use Rattle.jobs.specs.Tables.{stateOf, tasksOf};
 ghost use Rattle.calls.specs.Answers.{answerOf};
 ghost use Rattle.lines.specs.Puts.{Puts};
 ghost use Rattle.lines.specs.Replied.{replyRoom};
-use crate::list::put_lines;
-use crate::list::put_orders;
+use crate::list::JobLines;
+use crate::list::OfJob;
+use crate::list::Orders;
+use crate::list::RunsOn;
+use crate::listing::put_list;
 use crate::write::put_u8;
 use crate::write::put_u16;
 use crate::write::put_u32;
@@ -50,17 +53,31 @@ impl Reply {
 }
 
 // All that is to run on a machine.
-fn put_run(out: &mut [u8], at: usize, home: &[u64], run: RunOn) -> usize
+fn put_run(out: &mut [u8], at: usize, home: &[u64], live: &[u64], run: RunOn) -> usize
     requires words { ⌜ homeWords ≤ length (now home) ⌝ }
+    requires flags { ⌜ liveWords ≤ length (now live) ⌝ }
     requires room { ⌜ at + 110613 ≤ length (now out) ⌝ }
-    ensures bytes { λ r. ⌜ ((live : List ℕ) → Puts (answerBytes (Runs (run .machine .0) (run .life .0) (run .number .0) (orders (keep (onMachine (run .machine .0)) (tasksOf (now (home .entry)) live))))) (now (out .entry)) (now (out .exit)) at r) ⌝ }
+    ensures bytes { λ r. ⌜ Puts (answerBytes (Runs (run .machine .0) (run .life .0) (run .number .0) (orders (keep (onMachine (run .machine .0)) (tasksOf (now (home .entry)) (now (live .entry))))))) (now (out .entry)) (now (out .exit)) at r ⌝ }
     ensures room { λ r. ⌜ r ≤ at + 110613 ⌝ }
 {
     let end = put_u8(out, at, 2);
     let end = put_u16(out, end, run.machine.0);
     let end = put_u64(out, end, run.life.0);
     let end = put_u64(out, end, run.number.0);
-    put_orders(out, end, home, run.machine)
+    put_list(&RunsOn(run.machine), out, end, home, live)
+}
+
+// All tasks of the job of a name. One of more than 64 bytes names none.
+fn put_shown(out: &mut [u8], at: usize, home: &[u64], live: &[u64], name: &[u8]) -> usize
+    requires words { ⌜ homeWords ≤ length (now home) ⌝ }
+    requires flags { ⌜ liveWords ≤ length (now live) ⌝ }
+    requires room { ⌜ at + 110613 ≤ length (now out) ⌝ }
+    ensures bytes { λ r. ⌜ Puts (answerBytes (Shown (linesOf (keep (ofJob (now (name .entry))) (tasksOf (now (home .entry)) (now (live .entry))))))) (now (out .entry)) (now (out .exit)) at r ⌝ }
+    ensures room { λ r. ⌜ r ≤ at + 110613 ⌝ }
+    ensures long { λ r. ⌜ (64 < length (now (name .entry)) → keep (ofJob (now (name .entry))) (tasksOf (now (home .entry)) (now (live .entry))) ≡ []) ⌝ }
+{
+    let end = put_u8(out, at, 3);
+    put_list(&OfJob(name), out, end, home, live)
 }
 
 fn put_answer(out: &mut [u8], at: usize, home: &[u64], live: &[u64], answer: &Answer) -> usize
@@ -76,11 +93,8 @@ fn put_answer(out: &mut [u8], at: usize, home: &[u64], live: &[u64], answer: &An
             put_u8(out, end, why.number())
         }
         Answer::Yes => put_u8(out, at, 1),
-        Answer::Run(run) => put_run(out, at, home, run),
-        Answer::Lines(name) => {
-            let end = put_u8(out, at, 3);
-            put_lines(out, end, home, live, name)
-        }
+        Answer::Run(run) => put_run(out, at, home, live, run),
+        Answer::Lines(name) => put_shown(out, at, home, live, name),
     }
 }
 

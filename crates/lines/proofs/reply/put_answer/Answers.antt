@@ -22,15 +22,13 @@ returns-in-TurnedAway c =
 pub returns-in-Run : need.returns-in-Run
 returns-in-Run c =
     record {
-      bytes = λ time. puts-as (ap (λ (a : Answer). answerBytes (answerOf a (stateOf (c .args .home .now) (c .args .live .now) time))) (sym (c .in-Run .is))) (c .put-run .ensures .bytes (c .args .live .now));
+      bytes = λ time. puts-as (ap (λ (a : Answer). answerBytes (answerOf a (stateOf (c .args .home .now) (c .args .live .now) time))) (sym (c .in-Run .is))) (c .put-run .ensures .bytes);
       room = c .put-run .ensures .room;
     }
 
 pub returns-in-Lines : need.returns-in-Lines
 returns-in-Lines c =
     record {
-      bytes = λ time.
-          puts-as (ap (λ (a : Answer). answerBytes (answerOf a (stateOf (c .args .home .now) (c .args .live .now) time))) (sym (c .in-Lines .is)))
-          (puts-then (c .put-u8-end-in-Lines .ensures .bytes) (c .put-lines .ensures .bytes));
-      room = search needs;
+      bytes = λ time. puts-as (ap (λ (a : Answer). answerBytes (answerOf a (stateOf (c .args .home .now) (c .args .live .now) time))) (sym (c .in-Lines .is))) (c .put-shown .ensures .bytes);
+      room = c .put-shown .ensures .room;
     }
