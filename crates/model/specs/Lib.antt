@@ -8,5 +8,6 @@ pub mod Right
 pub mod Promise
 pub mod Wire
 pub mod Lines
+pub mod Answers
 pub mod Always
 pub mod Cases

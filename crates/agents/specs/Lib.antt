@@ -1,0 +1,4 @@
+pub mod LifeFile
+pub mod Memory
+pub mod Moves
+pub mod Answering

@@ -1,0 +1,86 @@
+// What is ordered and what runs, by task.
+ghost use mathlib.Core.Path.{_≡_};
+ghost use mathlib.Core.List.{map};
+ghost use Prim.Native.Nat.{ℕ};
+ghost use Rattle.std.specs.Of.Vec.{vec-items};
+ghost use Rattle.std.specs.Vec.{made};
+ghost use Rattle.model.specs.Lists.{find, some};
+ghost use Rattle.model.specs.World.{isOrder, isReadyIn, isSeen};
+ghost use Rattle.agents.specs.Memory.{ordersOf, seensOf};
+ghost use Rattle.agents.specs.Moves.{Found, kept, started};
+use crate::order::Order;
+use crate::order::Seen;
+use jobs::ids::TaskId;
+use std::alloc::AllocError;
+use std::alloc::Global;
+
+pub fn is_ordered(orders: &[Order], task: TaskId) -> bool
+    ensures { λ r. ⌜ r ≡ some (isOrder (task .0)) (ordersOf (now (orders .entry))) ⌝ }
+{
+    for order in orders {
+        if order.task.0 == task.0 {
+            return true;
+        }
+    }
+    false
+}
+
+// The order for a task: the first, where hostile bytes gave several.
+pub fn order_for(orders: &[Order], task: TaskId) -> Option<Order>
+    ensures { λ r. ⌜ Found (find (isOrder (task .0)) (ordersOf (now (orders .entry)))) r ⌝ }
+{
+    for order in orders {
+        if order.task.0 == task.0 {
+            return Some(*order);
+        }
+    }
+    None
+}
+
+pub fn runs(seens: &[Seen], task: TaskId) -> bool
+    ensures { λ r. ⌜ r ≡ some (isSeen (task .0)) (seensOf (now (seens .entry))) ⌝ }
+{
+    for seen in seens {
+        if seen.task.0 == task.0 {
+            return true;
+        }
+    }
+    false
+}
+
+pub fn is_ready(seens: &[Seen], task: TaskId) -> bool
+    ensures { λ r. ⌜ r ≡ isReadyIn (task .0) (seensOf (now (seens .entry))) ⌝ }
+{
+    for seen in seens {
+        if seen.task.0 == task.0 && seen.ready {
+            return true;
+        }
+    }
+    false
+}
+
+// Of what runs, what is ordered.
+pub fn keep_ordered(heap: Global, seens: &[Seen], orders: &[Order]) -> Result<Vec<Seen>, AllocError>
+    ensures { λ r. ⌜ made r (λ v. seensOf (vec-items v) ≡ kept (ordersOf (now (orders .entry))) (seensOf (now (seens .entry)))) ⌝ }
+{
+    let mut left = Vec::new(heap);
+    for seen in seens {
+        if is_ordered(orders, seen.task) {
+            left.push(*seen)?;
+        }
+    }
+    Ok(left)
+}
+
+// What is ordered and doesn't run, runs too.
+pub fn start_ordered(seens: &mut Vec<Seen>, orders: &[Order]) -> Result<(), AllocError>
+    ensures { λ r. ⌜ made r (λ _. seensOf (vec-items (now (seens .exit))) ≡ started (ordersOf (now (orders .entry))) (seensOf (vec-items (now (seens .entry))))) ⌝ }
+{
+    for i in (0..orders.len()).rev() {
+        let task = orders[i].task;
+        if !runs(seens.as_slice(), task) {
+            seens.insert(0, Seen { task, ready: false })?;
+        }
+    }
+    Ok(())
+}
