@@ -1,2 +1,4 @@
 pub mod Lists
 pub mod Orders
+pub mod Moving
+pub mod Reports

@@ -2,3 +2,4 @@ pub mod LifeFile
 pub mod Memory
 pub mod Moves
 pub mod Answering
+pub mod Reporting

@@ -5,3 +5,5 @@ pub mod head;
 pub mod order;
 pub mod read;
 pub mod running;
+pub mod deeds;
+pub mod report;

@@ -1,20 +1,19 @@
 // What is ordered and what runs, by task.
 ghost use mathlib.Core.Path.{_≡_};
-ghost use mathlib.Core.List.{map};
-ghost use Prim.Native.Nat.{ℕ};
+ghost use mathlib.Core.List.{[], _∷_, _++_};
 ghost use Rattle.std.specs.Of.Vec.{vec-items};
 ghost use Rattle.std.specs.Vec.{made};
 ghost use Rattle.model.specs.Lists.{find, some};
 ghost use Rattle.model.specs.World.{isOrder, isReadyIn, isSeen};
-ghost use Rattle.agents.specs.Memory.{ordersOf, seensOf};
-ghost use Rattle.agents.specs.Moves.{Found, kept, started};
+ghost use Rattle.agents.specs.Memory.{ordersOf, seenOf, seensOf};
+ghost use Rattle.agents.specs.Moves.{Found, kept, started, startedOne};
 use crate::order::Order;
 use crate::order::Seen;
 use jobs::ids::TaskId;
 use std::alloc::AllocError;
 use std::alloc::Global;
 
-pub fn is_ordered(orders: &[Order], task: TaskId) -> bool
+fn is_ordered(orders: &[Order], task: TaskId) -> bool
     ensures { λ r. ⌜ r ≡ some (isOrder (task .0)) (ordersOf (now (orders .entry))) ⌝ }
 {
     for order in orders {
@@ -59,17 +58,34 @@ pub fn is_ready(seens: &[Seen], task: TaskId) -> bool
     false
 }
 
+fn keep_one(left: &mut Vec<Seen>, orders: &[Order], seen: Seen) -> Result<(), AllocError>
+    ensures { λ r. ⌜ made r (λ _. seensOf (vec-items (now (left .exit))) ≡ seensOf (vec-items (now (left .entry))) ++ kept (ordersOf (now (orders .entry))) (seenOf seen ∷ [])) ⌝ }
+{
+    if is_ordered(orders, seen.task) {
+        left.push(seen)?;
+    }
+    Ok(())
+}
+
 // Of what runs, what is ordered.
 pub fn keep_ordered(heap: Global, seens: &[Seen], orders: &[Order]) -> Result<Vec<Seen>, AllocError>
     ensures { λ r. ⌜ made r (λ v. seensOf (vec-items v) ≡ kept (ordersOf (now (orders .entry))) (seensOf (now (seens .entry)))) ⌝ }
 {
     let mut left = Vec::new(heap);
     for seen in seens {
-        if is_ordered(orders, seen.task) {
-            left.push(*seen)?;
-        }
+        keep_one(&mut left, orders, *seen)?;
     }
     Ok(left)
+}
+
+// A task that doesn't run, runs too.
+fn start_one(seens: &mut Vec<Seen>, task: TaskId) -> Result<(), AllocError>
+    ensures { λ r. ⌜ made r (λ _. seensOf (vec-items (now (seens .exit))) ≡ startedOne (task .0) (seensOf (vec-items (now (seens .entry))))) ⌝ }
+{
+    if !runs(seens.as_slice(), task) {
+        seens.insert(0, Seen { task, ready: false })?;
+    }
+    Ok(())
 }
 
 // What is ordered and doesn't run, runs too.
@@ -77,10 +93,7 @@ pub fn start_ordered(seens: &mut Vec<Seen>, orders: &[Order]) -> Result<(), Allo
     ensures { λ r. ⌜ made r (λ _. seensOf (vec-items (now (seens .exit))) ≡ started (ordersOf (now (orders .entry))) (seensOf (vec-items (now (seens .entry))))) ⌝ }
 {
     for i in (0..orders.len()).rev() {
-        let task = orders[i].task;
-        if !runs(seens.as_slice(), task) {
-            seens.insert(0, Seen { task, ready: false })?;
-        }
+        start_one(seens, orders[i].task)?;
     }
     Ok(())
 }
