@@ -2,3 +2,4 @@ pub mod Lists
 pub mod Orders
 pub mod Moving
 pub mod Reports
+pub mod Around

@@ -65,7 +65,7 @@ module _ {X Y Z : Type 0} (f : X → Y) (g : List Y → List Z) (base : List Z) 
   gather-none e = sym (append-nil base) ∙ ap (λ ys. base ++ ys) (sym e)
 
   pub gather-more : ((ys : List Y) (y : Y) → g (ys ++ (y ∷ [])) ≡ g ys ++ g (y ∷ [])) → (i : ℕ) (d : X) (acc acc′ : List Z) → i < length xs → acc ≡ base ++ g (map f (take i xs)) → acc′ ≡ acc ++ g (f (getD xs i d) ∷ []) →
-    acc′ ≡ base ++ g (map f (take (i + 1) xs))
+      acc′ ≡ base ++ g (map f (take (i + 1) xs))
   gather-more hom i d acc acc′ l inv e =
       e ∙ ap (λ ys. ys ++ g (f (getD xs i d) ∷ [])) inv ∙ append-assoc base (g (map f (take i xs))) (g (f (getD xs i d) ∷ [])) ∙
       ap (λ ys. base ++ ys) (sym (hom (map f (take i xs)) (f (getD xs i d))) ∙ ap g (sym (map-push f (take i xs) (getD xs i d)) ∙ ap (map f) (sym (take-more xs i d l))))
@@ -100,7 +100,7 @@ keep-hom p (x ∷ ys) y = pick (p x) (keep-hom p ys y)
 
 -- the same for a loop whose turns each join what one element gives
 pub gather-joined : {X Y Z : Type 0} (f : X → Y) (g : Y → List Z) (base : List Z) (xs : List X) (i : ℕ) (d : X) (acc acc′ : List Z) → i < length xs → acc ≡ base ++ joined g (map f (take i xs)) → acc′ ≡ acc ++ g (f (getD xs i d)) →
-  acc′ ≡ base ++ joined g (map f (take (i + 1) xs))
+    acc′ ≡ base ++ joined g (map f (take (i + 1) xs))
 gather-joined f g base xs i d acc acc′ l inv e = gather-more f (joined g) base xs (joined-hom g) i d acc acc′ l inv (e ∙ ap (λ ys. acc ++ ys) (sym (append-nil (g (f (getD xs i d))))))
 
 -- a push of what is called for
@@ -110,3 +110,8 @@ pushed-as f b ys xs x zs e t q = pushed f b ys xs x e t ∙ ap (λ ws. map f xs 
 -- nothing is called for
 pub none-more : {A : Type 0} (xs zs : List A) → zs ≡ [] → xs ≡ xs ++ zs
 none-more xs zs e = sym (append-nil xs) ∙ ap (λ ys. xs ++ ys) (sym e)
+
+-- and for an element that is read whole
+pub gather-item : {X Y Z : Type 0} (f : X → Y) (g : Y → List Z) (base : List Z) (xs : List X) (i : ℕ) (x : X) (acc acc′ : List Z) → i < length xs → x ≡ getD xs i x → acc ≡ base ++ joined g (map f (take i xs)) → acc′ ≡ acc ++ g (f x) →
+    acc′ ≡ base ++ joined g (map f (take (i + 1) xs))
+gather-item f g base xs i x acc acc′ l is inv e = gather-joined f g base xs i x acc acc′ l inv (e ∙ ap (λ y. acc ++ g (f y)) is)

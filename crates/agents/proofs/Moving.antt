@@ -29,7 +29,7 @@ started-none xs = refl
 
 -- from the last order back to the first
 pub started-back : (os : List code.Order) (base : List Seen) (i : ℕ) (d : code.Order) (acc acc′ : List Seen) → 0 < i → i ≤ length os → acc ≡ started (ordersOf (drop i os)) base → acc′ ≡ startedOne (getD os (i - 1) d .task .0) acc →
-  acc′ ≡ started (ordersOf (drop (i - 1) os)) base
+    acc′ ≡ started (ordersOf (drop (i - 1) os)) base
 unfolding started
 started-back os base i d acc acc′ p l inv s =
     let k : i - 1 + 1 ≡ i = omega arith in let q : i - 1 < length os = omega arith in

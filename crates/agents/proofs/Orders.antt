@@ -9,7 +9,7 @@ use native.Mathlib.Numerals.{add-one}
 use lib.Dec.{eqb, leb}
 use lib.ListN.{length, take, drop, set, getD, length-drop}
 use lib.Seq.{drop-drop, getD-drop}
-use Rattle.std.proofs.shelf.Lists.{take-more-set, take-rest}
+use Rattle.std.proofs.shelf.Lists.{take-more-set, take-rest, length-map}
 use Rattle.std.proofs.shelf.Tests.{eq-eqb, ne-eqb, le-leb, lt-leb, le-ltb}
 use Rattle.model.specs.Wire.{Bytes, garbled, meant, byteAt, field, isFlag, tagsIn, specIn, Runs}
 use Rattle.model.specs.Lines.{callIn}
@@ -37,7 +37,7 @@ tags-none bs tags = refl
 
 -- a likeness, by its parts
 pub spec-read : (t : ℕ) (bs ts : Bytes) (i c m : ℕ) (a : Bool) → i ≡ field 4 0 bs → c ≡ field 4 4 bs → m ≡ field 4 8 bs → a ≡ eqb (getD bs (13 + 4 * t) 0) 1 → ts ≡ tagsIn t (take (length bs - 13) (drop 13 bs)) →
-  _≡_ {A = s.Spec} (record { image = i; cpu = c; mem = m; tags = ts; apart = a }) (specIn t bs)
+    _≡_ {A = s.Spec} (record { image = i; cpu = c; mem = m; tags = ts; apart = a }) (specIn t bs)
 spec-read t bs ts i c m a p q r s g = let h : ts ≡ tagsIn t (drop 13 bs) = g ∙ ap (tagsIn t) (take-rest bs 13) in λ j. record { image = p j; cpu = q j; mem = r j; tags = h j; apart = s j }
 
 -- an order that is there whole
@@ -100,7 +100,7 @@ pub slice-bad : (n : ℕ) (bs : Bytes) (i at : ℕ) (os : List m.Order) → Read
 slice-bad n bs i at os h l e = reading-bad n bs i at os h l (sym (ap isOrderIn (take-rest bs at)) ∙ e)
 
 pub slice-more : (n : ℕ) (bs : Bytes) (i at : ℕ) (os : List m.Order) → Reading n bs i at os → i < n → (o : Order) → OrderRead (take (length bs - at) (drop at bs)) o → (os′ : List m.Order) → os′ ≡ os ++ (orderOf o ∷ []) →
-  Reading n bs (i + 1) (at + (22 + 4 * o .spec .count)) os′
+    Reading n bs (i + 1) (at + (22 + 4 * o .spec .count)) os′
 slice-more n bs i at os h l o r os′ q =
     let e = take-rest bs at in let d = length-drop at bs in let c = r .count ∙ ap tagsAt e in let w = r .within in let k = ap length e in
     subst (Reading n bs (i + 1) (at + (22 + 4 * o .spec .count))) (sym q) (reading-more n bs i at os h l (orderOf o) (22 + 4 * o .spec .count) (sym (ap isOrderIn e) ∙ r .fits) (r .value ∙ ap orderIn e) (ap (λ (x : ℕ). 22 + 4 * x) c) (let z = h .within in omega arith))
@@ -108,7 +108,7 @@ slice-more n bs i at os h l o r os′ q =
 -- an answer to a report, by its parts
 module _ (bs : Bytes) (l : 20 ≤ length bs) where
   pub runs-read : (k e n c : ℕ) (os : List m.Order) → k ≡ field 2 0 bs → e ≡ field 8 2 bs → n ≡ field 8 10 bs → c ≡ field 2 18 bs → areOrdersIn c (take (length bs - 20) (drop 20 bs)) ≡ true → os ≡ ordersIn c (take (length bs - 20) (drop 20 bs)) →
-    readRuns bs ≡ meant (Runs k e n os)
+      readRuns bs ≡ meant (Runs k e n os)
   runs-read k e n c os p q r s f v =
       let g : areOrdersIn (field 2 18 bs) (drop 20 bs) ≡ true = sym (ap (λ (x : ℕ). areOrdersIn x (drop 20 bs)) s) ∙ sym (ap (areOrdersIn c) (take-rest bs 20)) ∙ f in
       let o : os ≡ ordersIn (field 2 18 bs) (drop 20 bs) = v ∙ ap (ordersIn c) (take-rest bs 20) ∙ ap (λ (x : ℕ). ordersIn x (drop 20 bs)) s in
@@ -130,3 +130,12 @@ frame-bad line l f = rw (le-ltb (length line) 8 l, ne-eqb (field 4 0 line + 4) (
 
 pub frame-good : (line : Bytes) → 8 ≤ length line → field 4 0 line + 4 ≡ length line → take (length line - 8) (drop 8 line) ≡ callIn line
 frame-good line l e = rw (le-ltb (length line) 8 l, eq-eqb (field 4 0 line + 4) (length line) e, take-rest line 8)
+
+pub length-ordersIn : (n : ℕ) (bs : Bytes) → length (ordersIn n bs) ≡ n
+unfolding ordersIn
+length-ordersIn zero bs = refl
+length-ordersIn (suc n) bs = let h = length-ordersIn n (drop (orderWidth bs) bs) in cc
+
+-- as many as are said
+pub orders-few : (n : ℕ) (bs : Bytes) (os : List Order) (len : ℕ) → map orderOf os ≡ ordersIn n bs → len ≡ length os → n < 65536 → len ≤ 65535
+orders-few n bs os len e l h = let a = length-map os orderOf in let b = ap length e in let c = length-ordersIn n bs in omega arith

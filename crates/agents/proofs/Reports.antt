@@ -56,5 +56,5 @@ report-parts tag k l n c xs os e = simp append-assoc (ap (λ (m : ℕ). bytesOf 
 
 -- the front, byte by byte
 pub front-bytes : (tag k l n c v : ℕ) (a b x y z w : Bytes) → v ≡ c → a ≡ (25 + 9 * v) / 16777216 % 256 ∷ (25 + 9 * v) / 65536 % 256 ∷ (25 + 9 * v) / 256 % 256 ∷ (25 + 9 * v) % 256 ∷ [] → b ≡ tag / 16777216 % 256 ∷ tag / 65536 % 256 ∷ tag / 256 % 256 ∷ tag % 256 ∷ [] → x ≡ k / 256 % 256 ∷ k % 256 ∷ [] → y ≡ l / 72057594037927936 % 256 ∷ l / 281474976710656 % 256 ∷ l / 1099511627776 % 256 ∷ l / 4294967296 % 256 ∷ l / 16777216 % 256 ∷ l / 65536 % 256 ∷ l / 256 % 256 ∷ l % 256 ∷ [] → z ≡ n / 72057594037927936 % 256 ∷ n / 281474976710656 % 256 ∷ n / 1099511627776 % 256 ∷ n / 4294967296 % 256 ∷ n / 16777216 % 256 ∷ n / 65536 % 256 ∷ n / 256 % 256 ∷ n % 256 ∷ [] → w ≡ c / 256 % 256 ∷ c % 256 ∷ [] →
-  getD a 0 0 ∷ getD a 1 0 ∷ getD a 2 0 ∷ getD a 3 0 ∷ getD b 0 0 ∷ getD b 1 0 ∷ getD b 2 0 ∷ getD b 3 0 ∷ 7 ∷ getD x 0 0 ∷ getD x 1 0 ∷ getD y 0 0 ∷ getD y 1 0 ∷ getD y 2 0 ∷ getD y 3 0 ∷ getD y 4 0 ∷ getD y 5 0 ∷ getD y 6 0 ∷ getD y 7 0 ∷ getD z 0 0 ∷ getD z 1 0 ∷ getD z 2 0 ∷ getD z 3 0 ∷ getD z 4 0 ∷ getD z 5 0 ∷ getD z 6 0 ∷ getD z 7 0 ∷ getD w 0 0 ∷ getD w 1 0 ∷ [] ≡ frontOf tag k l n c
+    getD a 0 0 ∷ getD a 1 0 ∷ getD a 2 0 ∷ getD a 3 0 ∷ getD b 0 0 ∷ getD b 1 0 ∷ getD b 2 0 ∷ getD b 3 0 ∷ 7 ∷ getD x 0 0 ∷ getD x 1 0 ∷ getD y 0 0 ∷ getD y 1 0 ∷ getD y 2 0 ∷ getD y 3 0 ∷ getD y 4 0 ∷ getD y 5 0 ∷ getD y 6 0 ∷ getD y 7 0 ∷ getD z 0 0 ∷ getD z 1 0 ∷ getD z 2 0 ∷ getD z 3 0 ∷ getD z 4 0 ∷ getD z 5 0 ∷ getD z 6 0 ∷ getD z 7 0 ∷ getD w 0 0 ∷ getD w 1 0 ∷ [] ≡ frontOf tag k l n c
 front-bytes tag k l n c v a b x y z w i ea eb ex ey ez ew = rw (ea, eb, ex, ey, ez, ew, bytesOf-four (25 + 9 * c), bytesOf-four tag, bytesOf-two k, bytesOf-eight l, bytesOf-eight n, bytesOf-two c, i)

@@ -11,8 +11,8 @@ use Rattle.model.specs.Wire.{Bytes, Read, meant, Answer, Refused, Runs}
 use Rattle.model.specs.Answers.{tagsAt, orderIn, isOrderIn, ordersIn, areOrdersIn}
 use Rattle.agents.specs.Memory.{orderOf, ordersOf}
 use Rattle.agents.specs.declared.order.Order.{Order}
-use Rattle.agents.specs.declared.read.Heard.{Heard}
-use Rattle.agents.specs.declared.read.Heard.the-variants as heard
+use Rattle.agents.specs.declared.heard.Heard.{Heard}
+use Rattle.agents.specs.declared.heard.Heard.the-variants as heard
 use Rattle.agents.specs.declared.read.Orders.{Orders}
 use Rattle.agents.specs.declared.read.Orders.the-variants.{Whole, Garbled, NoMemory}
 

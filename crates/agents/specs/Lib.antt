@@ -3,3 +3,4 @@ pub mod Memory
 pub mod Moves
 pub mod Answering
 pub mod Reporting
+pub mod Steps

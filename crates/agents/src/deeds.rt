@@ -33,7 +33,12 @@ fn stop_all(deeds: &mut Vec<Deed>, before: &[Seen], after: &[Seen]) -> Result<()
     Ok(())
 }
 
-fn start_one(deeds: &mut Vec<Deed>, before: &[Seen], orders: &[Order], task: TaskId) -> Result<(), AllocError>
+fn start_one(
+    deeds: &mut Vec<Deed>,
+    before: &[Seen],
+    orders: &[Order],
+    task: TaskId,
+) -> Result<(), AllocError>
     ensures { λ r. ⌜ made r (λ _. deedsOf (vec-items (now (deeds .exit))) ≡ deedsOf (vec-items (now (deeds .entry))) ++ startFor (seensOf (now (before .entry))) (ordersOf (now (orders .entry))) (task .0)) ⌝ }
 {
     if runs(before, task) {
@@ -46,7 +51,12 @@ fn start_one(deeds: &mut Vec<Deed>, before: &[Seen], orders: &[Order], task: Tas
 }
 
 // What runs only now.
-fn start_all(deeds: &mut Vec<Deed>, before: &[Seen], after: &[Seen], orders: &[Order]) -> Result<(), AllocError>
+fn start_all(
+    deeds: &mut Vec<Deed>,
+    before: &[Seen],
+    after: &[Seen],
+    orders: &[Order],
+) -> Result<(), AllocError>
     ensures { λ r. ⌜ made r (λ _. deedsOf (vec-items (now (deeds .exit))) ≡ deedsOf (vec-items (now (deeds .entry))) ++ startsFor (seensOf (now (before .entry))) (ordersOf (now (orders .entry))) (seensOf (now (after .entry)))) ⌝ }
 {
     for seen in after {
@@ -56,7 +66,12 @@ fn start_all(deeds: &mut Vec<Deed>, before: &[Seen], after: &[Seen], orders: &[O
 }
 
 // What is done: all that is stopped, then all that is started.
-pub fn deeds_between(heap: Global, before: &[Seen], after: &[Seen], orders: &[Order]) -> Result<Vec<Deed>, AllocError>
+pub fn deeds_between(
+    heap: Global,
+    before: &[Seen],
+    after: &[Seen],
+    orders: &[Order],
+) -> Result<Vec<Deed>, AllocError>
     ensures { λ r. ⌜ made r (λ v. deedsOf (vec-items v) ≡ deedsFor (seensOf (now (before .entry))) (seensOf (now (after .entry))) (ordersOf (now (orders .entry)))) ⌝ }
 {
     let mut deeds = Vec::new(heap);

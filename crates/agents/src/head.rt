@@ -24,7 +24,11 @@ impl Head {
         ensures life { λ r. ⌜ r .life .0 ≡ life .0 ⌝ }
         ensures number { λ r. ⌜ r .number .0 ≡ 0 ⌝ }
     {
-        Head { machine, life, number: ReportNumber(0) }
+        Head {
+            machine,
+            life,
+            number: ReportNumber(0),
+        }
     }
 
     // Of the next report.
@@ -34,13 +38,18 @@ impl Head {
         ensures life { λ r. ⌜ r .life .0 ≡ self .life .0 ⌝ }
         ensures number { λ r. ⌜ r .number .0 ≡ self .number .0 + 1 ⌝ }
     {
-        Head { number: ReportNumber(self.number.0 + 1), ..self }
+        Head {
+            number: ReportNumber(self.number.0 + 1),
+            ..self
+        }
     }
 
     // Whether both are of the same report.
     pub fn same(self, other: Head) -> bool
         ensures { λ r. ⌜ r ≡ (eqb (other .machine .0) (self .machine .0) && eqb (other .life .0) (self .life .0) && eqb (other .number .0) (self .number .0)) ⌝ }
     {
-        other.machine.0 == self.machine.0 && other.life.0 == self.life.0 && other.number.0 == self.number.0
+        other.machine.0 == self.machine.0
+            && other.life.0 == self.life.0
+            && other.number.0 == self.number.0
     }
 }

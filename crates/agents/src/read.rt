@@ -9,34 +9,19 @@ ghost use Rattle.model.specs.Answers.{isOrderIn, readAnswer, readRuns};
 ghost use Rattle.model.specs.Lines.{callIn};
 ghost use Rattle.jobs.specs.Values.{specOf};
 ghost use Rattle.agents.specs.Answering.{HeardAs, OrderRead, OrdersAs};
+use crate::head::Head;
+use crate::heard::Heard;
+use crate::heard::Run;
+use crate::order::Order;
 use bytes::field::u16_at;
 use bytes::field::u32_at;
 use bytes::field::u64_at;
-use crate::head::Head;
-use crate::order::Order;
 use jobs::ids::Life;
 use jobs::ids::MachineId;
 use jobs::ids::ReportNumber;
 use jobs::ids::TaskId;
 use jobs::spec::Spec;
 use std::alloc::Global;
-
-// An answer to a report: the report's head, and all that is to run.
-#[derive(Drop)]
-pub struct Run {
-    pub head: Head,
-    pub orders: Vec<Order>,
-}
-
-// What bytes say to an agent.
-#[derive(Drop)]
-pub enum Heard {
-    Run(Run),
-    Refused(u8),
-    // An answer to something else, or none.
-    Other,
-    NoMemory,
-}
 
 // Orders, if bytes are such.
 #[derive(Drop)]

@@ -29,7 +29,37 @@ fn front(tag: u32, head: Head, count: u16) -> [u8; 29]
     let [k, l, m, n, o, p, q, r] = head.life.0.to_be_bytes();
     let [s, t, u, v, w, x, y, z] = head.number.0.to_be_bytes();
     let [many, few] = count.to_be_bytes();
-    [a, b, c, d, e, f, g, h, 7, i, j, k, l, m, n, o, p, q, r, s, t, u, v, w, x, y, z, many, few]
+    [
+        a,
+        b,
+        c,
+        d,
+        e,
+        f,
+        g,
+        h,
+        7,
+        i,
+        j,
+        k,
+        l,
+        m,
+        n,
+        o,
+        p,
+        q,
+        r,
+        s,
+        t,
+        u,
+        v,
+        w,
+        x,
+        y,
+        z,
+        many,
+        few,
+    ]
 }
 
 // A task in a report.
@@ -58,7 +88,12 @@ fn add_tasks(bytes: &mut Vec<u8>, seens: &[Seen], orders: &[Order]) -> Result<()
 }
 
 // A report of all that is ordered, in its frame; the tag counts with the reports.
-pub fn report_bytes(heap: Global, head: Head, seens: &[Seen], orders: &[Order]) -> Result<Vec<u8>, AllocError>
+pub fn report_bytes(
+    heap: Global,
+    head: Head,
+    seens: &[Seen],
+    orders: &[Order],
+) -> Result<Vec<u8>, AllocError>
     requires { ⌜ length (now orders) ≤ 65535 ⌝ }
     ensures { λ r. ⌜ made r (λ v. vec-items v ≡ framed (head .number .0 % 4294967296) (callBytes (Report (head .machine .0) (head .life .0) (head .number .0) (mayRun (seensOf (now (seens .entry))) (ordersOf (now (orders .entry))))))) ⌝ }
 {

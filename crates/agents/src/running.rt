@@ -6,7 +6,7 @@ ghost use Rattle.std.specs.Vec.{made};
 ghost use Rattle.model.specs.Lists.{find, some};
 ghost use Rattle.model.specs.World.{isOrder, isReadyIn, isSeen};
 ghost use Rattle.agents.specs.Memory.{ordersOf, seenOf, seensOf};
-ghost use Rattle.agents.specs.Moves.{Found, kept, started, startedOne};
+ghost use Rattle.agents.specs.Moves.{Found, PlacedAt, kept, started, startedOne};
 use crate::order::Order;
 use crate::order::Seen;
 use jobs::ids::TaskId;
@@ -45,6 +45,18 @@ pub fn runs(seens: &[Seen], task: TaskId) -> bool
         }
     }
     false
+}
+
+// Where a task stands among those that run.
+pub fn place(seens: &[Seen], task: TaskId) -> Option<usize>
+    ensures { λ r. ⌜ PlacedAt (task .0) (now (seens .entry)) r ⌝ }
+{
+    for (i, seen) in seens.iter().enumerate() {
+        if seen.task.0 == task.0 {
+            return Some(i);
+        }
+    }
+    None
 }
 
 pub fn is_ready(seens: &[Seen], task: TaskId) -> bool

@@ -9,7 +9,7 @@ use Rattle.agents.proofs.running.is_ordered.Needs as need
 pub returns-then-order-task : need.returns-then-order-task
 returns-then-order-task c =
     sym (look-here orderOf (some (isOrder (c .args .task .0))) (c .args .orders .now) (c .loop-order .order-index) (c .loop-order .inv) (c .order-item .result) _ (at-item _ _ _ (c .loop-order-test .taken) (c .order-item .is))
-        (some-hit _ _ _ (eq-eqb _ _ (sym (c .if-order-task .taken)))))
+    (some-hit _ _ _ (eq-eqb _ _ (sym (c .if-order-task .taken)))))
 
 pub loop-order-again : need.loop-order-again
 loop-order-again c =

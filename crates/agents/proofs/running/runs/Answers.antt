@@ -15,7 +15,7 @@ none = record { task = record { 0 = 0 }; ready = false }
 pub returns-then-seen-task : need.returns-then-seen-task
 returns-then-seen-task c =
     sym (look-here seenOf (some (isSeen (c .args .task .0))) (c .args .seens .now) (c .loop-seen .seen-index) (c .loop-seen .inv) _ _ (drop-more _ _ none (c .loop-seen-test .taken))
-        (some-hit _ _ _ (eq-eqb _ _ (sym (c .if-seen-task .taken)))))
+    (some-hit _ _ _ (eq-eqb _ _ (sym (c .if-seen-task .taken)))))
 
 pub loop-seen-again : need.loop-seen-again
 loop-seen-again c =
