@@ -3,3 +3,4 @@ pub mod Orders
 pub mod Moving
 pub mod Reports
 pub mod Around
+pub mod Texts

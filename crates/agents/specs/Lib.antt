@@ -4,3 +4,4 @@ pub mod Moves
 pub mod Answering
 pub mod Reporting
 pub mod Steps
+pub mod Texts

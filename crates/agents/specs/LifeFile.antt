@@ -3,9 +3,8 @@
 use mathlib.Core.Path.{_≡_}
 use mathlib.Core.Logic.{_⊎_}
 use mathlib.Core.Bool.{cond, _&&_}
-use mathlib.Core.List.{List, _++_}
+use mathlib.Core.List.{_++_}
 use Prim.Native.Nat.{ℕ, _+_, _<_, _≤_}
-use denote.Ref.{RefT}
 use lib.Dec.{eqb, ltb, leb}
 use lib.ListN.{length, take, drop}
 use Rattle.std.specs.declared.option.Option.{Option}
@@ -26,16 +25,11 @@ lifeBytes n = bytesOf 8 n ++ bytesOf 8 n
 abbrev pub readLife : Bytes → Read ℕ
 readLife bs = cond (eqb (length bs) 16 && eqb (field 8 0 bs) (field 8 8 bs) && ltb 0 (field 8 0 bs) && leb (field 8 0 bs) lastLife) (meant (field 8 0 bs)) garbled
 
--- where there is no file, nobody has come up
-abbrev pub lifeIn : Option (RefT (List ℕ)) → Read ℕ
-lifeIn None = meant 0
-lifeIn (Some bs) = readLife (bs .now)
-
 abbrev pub Reads : Read ℕ → Option Life → Type 0
 Reads x None = x ≡ garbled
 Reads x (Some l) = x ≡ meant (l .0)
 
--- the life to come up with is one more than the file's, and never above the last
+-- the life to come up with is one more than the file's, or than 0 where there is none, and never above the last
 abbrev pub Rises : Read ℕ → Result Life Unfit → Type 0
 Rises x (Ok l) = (n : ℕ) × (x ≡ meant n) × (l .0 ≡ n + 1) × (n < lastLife)
 Rises x (Err Damaged) = x ≡ garbled

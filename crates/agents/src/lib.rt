@@ -6,6 +6,7 @@ pub mod head;
 pub mod heard;
 pub mod life;
 pub mod moves;
+pub mod text;
 pub mod order;
 pub mod read;
 pub mod report;

@@ -1,6 +1,8 @@
 // The file `life`: the agent's life as eight bytes, twice. A part of it, or two writings mixed, is no other life.
 ghost use mathlib.Core.Path.{_≡_};
-ghost use Rattle.agents.specs.LifeFile.{Fits, Reads, Rises, lifeBytes, lifeIn, readLife};
+ghost use Rattle.std.specs.declared.result.Result.the-variants.{Ok};
+ghost use Rattle.model.specs.Wire.{meant};
+ghost use Rattle.agents.specs.LifeFile.{Reads, Rises, lifeBytes, readLife};
 use bytes::field::u64_at;
 use jobs::ids::Life;
 
@@ -36,19 +38,22 @@ pub fn life_bytes(life: Life) -> [u8; 16]
     [a, b, c, d, e, f, g, h, a, b, c, d, e, f, g, h]
 }
 
-// The life to come up with, by the file; where there is none, the first.
-pub fn next_life(file: Option<&[u8]>) -> Result<Life, Unfit>
-    ensures { λ r. ⌜ Rises (lifeIn (file .entry)) r ⌝ }
+// The life to come up with where there is no file.
+pub fn first_life() -> Life
+    ensures { λ r. ⌜ Rises (meant 0) (Ok r) ⌝ }
 {
-    let last = match file {
-        None => 0,
-        Some(bytes) => match read_life(bytes) {
-            Some(life) => life.0,
-            None => return Err(Unfit::Damaged),
-        },
+    Life(1)
+}
+
+// The life to come up with, by the file.
+pub fn next_life(file: &[u8]) -> Result<Life, Unfit>
+    ensures { λ r. ⌜ Rises (readLife (now (file .entry))) r ⌝ }
+{
+    let Some(last) = read_life(file) else {
+        return Err(Unfit::Damaged);
     };
-    if last >= LAST {
+    if last.0 >= LAST {
         return Err(Unfit::Last);
     }
-    Ok(Life(last + 1))
+    Ok(Life(last.0 + 1))
 }

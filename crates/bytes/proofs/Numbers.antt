@@ -91,7 +91,7 @@ bytesOf-four n = let a : n / 256 / 256 ≡ n / 65536 = div-div-eq-div-mul n 256 
 
 -- and eight
 pub bytesOf-eight : (n : ℕ) →
-    bytesOf 8 n ≡ n / 72057594037927936 % 256 ∷ n / 281474976710656 % 256 ∷ n / 1099511627776 % 256 ∷ n / 4294967296 % 256 ∷ n / 16777216 % 256 ∷ n / 65536 % 256 ∷ n / 256 % 256 ∷ n % 256 ∷ []
+  bytesOf 8 n ≡ n / 72057594037927936 % 256 ∷ n / 281474976710656 % 256 ∷ n / 1099511627776 % 256 ∷ n / 4294967296 % 256 ∷ n / 16777216 % 256 ∷ n / 65536 % 256 ∷ n / 256 % 256 ∷ n % 256 ∷ []
 unfolding bytesOf
 bytesOf-eight n =
     let b : n / 256 / 256 ≡ n / 65536 = div-div-eq-div-mul n 256 256 in

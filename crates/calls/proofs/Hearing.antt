@@ -60,10 +60,9 @@ hear-both : (k l : ℕ) (xs : List Seen) (ts us : List Task) → heardAll k l xs
 unfolding heardAll
 hear-both k l xs [] us = refl
 hear-both k l xs (t ∷ ts) us =
-    elim (cases-bool (not (isWaiting (t .phase)) && eqb k (t .machine))) [
-      | inl a ↦ elim (cases-bool (eqb l (t .life))) [ inl b ↦ rw (a, b, hear-both k l xs ts us) (sym (append-assoc (heardOf (seenAs (t .id) xs) t) (heardAll k l xs ts) (heardAll k l xs us))) | inr b ↦ rw (a, b, hear-both k l xs ts us) ]
-      | inr a ↦ rw (a, hear-both k l xs ts us)
-    ]
+    elim (cases-bool (not (isWaiting (t .phase)) && eqb k (t .machine)))
+    [ inl a ↦ elim (cases-bool (eqb l (t .life))) [ inl b ↦ rw (a, b, hear-both k l xs ts us) (sym (append-assoc (heardOf (seenAs (t .id) xs) t) (heardAll k l xs ts) (heardAll k l xs us))) | inr b ↦ rw (a, b, hear-both k l xs ts us) ]
+    | inr a ↦ rw (a, hear-both k l xs ts us) ]
 
 pub hear-each : (k l : ℕ) (xs : List Seen) → Each (heardAll k l xs)
 hear-each k l xs = record { none = hear-none k l xs; both = hear-both k l xs }

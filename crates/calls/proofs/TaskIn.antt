@@ -13,7 +13,7 @@ use Rattle.jobs.specs.Values.{lifeOf, machineOf, phaseOf}
 use Rattle.settling.proofs.Tallies.{row-full}
 
 module _ (home live row : List ℕ) (i : ℕ) (r : row ≡ taskRow home i) (phase : Phase)
-    (p : phaseOf phase ≡ phaseFrom (at row 1) (at live (256 + i))) (m : machineOf phase ≡ cond (eqb (at row 1) 0) 0 (at row 2 % 65536)) (l : lifeOf phase ≡ cond (eqb (at row 1) 0) 0 (at row 3)) where
+  (p : phaseOf phase ≡ phaseFrom (at row 1) (at live (256 + i))) (m : machineOf phase ≡ cond (eqb (at row 1) 0) 0 (at row 2 % 65536)) (l : lifeOf phase ≡ cond (eqb (at row 1) 0) 0 (at row 3)) where
   abbrev there : s.Task
   there = taskFrom (taskRow home i) (at live (256 + i))
 
@@ -24,7 +24,7 @@ module _ (home live row : List ℕ) (i : ℕ) (r : row ≡ taskRow home i) (phas
 
   -- a change of lists that makes ys of it makes ys of the row
   pub changed : (full : at row 0 ≡ 0 → ⊥) (g : List s.Task → List s.Task) (h : List s.Task → List s.Task) →
-      ((t : s.Task) → t .phase ≡ phaseOf phase → t .id ≡ at row 0 → t .machine ≡ machineOf phase → t .life ≡ lifeOf phase → g (t ∷ []) ≡ h (t ∷ [])) → h (taskAt home live i) ≡ g (taskAt home live i)
+    ((t : s.Task) → t .phase ≡ phaseOf phase → t .id ≡ at row 0 → t .machine ≡ machineOf phase → t .life ≡ lifeOf phase → g (t ∷ []) ≡ h (t ∷ [])) → h (taskAt home live i) ≡ g (taskAt home live i)
   changed full g h f =
       let e = row-full home live row i r full in
       ap h e ∙ sym (ap g e ∙ described (λ (t : s.Task). g (t ∷ []) ≡ h (t ∷ [])) f)

@@ -30,24 +30,12 @@ pub impl From<AllocError> for Trouble as FromAlloc {
 pub impl fmt::Display for Trouble as TroubleDisplay {
     fn fmt<W: fmt::Write>(&self, f: &mut fmt::Formatter<W>) -> fmt::Result {
         match self {
-            Trouble::Usage => write!(
-                f,
-                "too many arguments: say `herd`, or `herd DIR` with the directory of the file `kept`"
-            ),
+            Trouble::Usage => write!(f, "too many arguments: say `herd`, or `herd DIR` with the directory of the file `kept`"),
             Trouble::Memory => write!(f, "no memory to begin with"),
             Trouble::Arguments(e) => write!(f, "the arguments cannot be read: {e}"),
-            Trouble::Open(e) => write!(
-                f,
-                "`kept` cannot be opened: {e}; see that it is a file that may be read and written"
-            ),
-            Trouble::Make(e) => write!(
-                f,
-                "`kept` is missing and cannot be made: {e}; see that its directory is there and may be written"
-            ),
-            Trouble::Length(n) => write!(
-                f,
-                "`kept` has {n} bytes and not 2097152, so it is no kept memory; put the right file back, or move this one away to begin anew"
-            ),
+            Trouble::Open(e) => write!(f, "`kept` cannot be opened: {e}; see that it is a file that may be read and written"),
+            Trouble::Make(e) => write!(f, "`kept` is missing and cannot be made: {e}; see that its directory is there and may be written"),
+            Trouble::Length(n) => write!(f, "`kept` has {n} bytes and not 2097152, so it is no kept memory; put the right file back, or move this one away to begin anew"),
             Trouble::Lines(e) => write!(f, "lines cannot be read or answered any more: {e}"),
         }
     }

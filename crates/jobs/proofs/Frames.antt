@@ -59,12 +59,11 @@ module _ (home live home' live' : List ℕ) (i : ℕ) (fits : homeWords ≤ leng
 
   pub put-task : (xs : List s.Task) → Only (12808 + i * 27) (12808 + i * 27 + 27) home' home → Only (256 + i) (256 + i + 1) live' live → taskAt home' live' i ≡ xs → TaskPut i xs home live home' live'
   put-task xs o u e = record {
-    here = e;
-    others = λ j h ne. ap (λ (r : List ℕ). taskSlot r (at live' (256 + j))) (other-row o j h ne) ∙ ap (taskSlot (taskRow home j)) (flag j ne);
-    rows = o .below 3 (omega arith);
-    last = o .below 0 (omega arith);
-    frame = record { long = o .long; longLive = u .long; words = λ k h p q. o .below k (omega arith); heard = λ k h. u .below k (omega arith) };
-  }
+      here = e;
+      others = λ j h ne. ap (λ (r : List ℕ). taskSlot r (at live' (256 + j))) (other-row o j h ne) ∙ ap (taskSlot (taskRow home j)) (flag j ne);
+      rows = o .below 3 (omega arith);
+      last = o .below 0 (omega arith);
+      frame = record { long = o .long; longLive = u .long; words = λ k h p q. o .below k (omega arith); heard = λ k h. u .below k (omega arith) } }
     where
       over : (j : ℕ) → i ≤ j → (j ≡ i → ⊥) → i < j
       over j g n = omega arith
@@ -91,12 +90,11 @@ module _ (home live home' live' : List ℕ) (i : ℕ) (xs : List s.Task) (fits :
 
   pub state-put : (now : ℕ) → stateOf home' live' now ≡ withTasks (tasksBefore home live i ++ (xs ++ tasksBehind home live i)) (stateOf home live now)
   state-put now = λ k. record {
-    now = now;
-    nextId = ap (λ (n : ℕ). n + 1) (p .last) k;
-    machines = machines-same home live home' live' fits (p .frame) k;
-    jobs = jobs-same home live home' live' fits (p .frame) k;
-    tasks = tasks-put k;
-  }
+      now = now;
+      nextId = ap (λ (n : ℕ). n + 1) (p .last) k;
+      machines = machines-same home live home' live' fits (p .frame) k;
+      jobs = jobs-same home live home' live' fits (p .frame) k;
+      tasks = tasks-put k }
 
 pub tasks-at : (home live : List ℕ) (i : ℕ) → i < taskRows home → tasksOf home live ≡ tasksBefore home live i ++ (taskAt home live i ++ tasksBehind home live i)
 tasks-at home live i h = span-at (taskAt home live) i (taskRows home) h

@@ -24,7 +24,7 @@ pub puts-row : (home r : List ℕ) (i k : ℕ) → homeWords ≤ length home →
 puts-row home r i k fits within e l = rw e (record { here = put-row 27 (12808 + i * 27) 27 home r (omega arith) l; only = put-only (12808 + i * 27) 27 home r (omega arith) l })
 
 pub copies : (home live home' : List ℕ) (r : List ℕ) (from to : ℕ) → homeWords ≤ length home → liveWords ≤ length live → to < 2048 → r ≡ taskRow home from → RowPut to r home home' →
-    TaskPut to (taskAt home live from) home live home' (set live (256 + to) (at live (256 + from)))
+  TaskPut to (taskAt home live from) home live home' (set live (256 + to) (at live (256 + from)))
 copies home live home' r from to fits flags within e p =
     let w : 256 + to < length live = omega arith in
     put-task home live home' _ to fits within _ (p .only) (set-only (256 + to) (at live (256 + from)) live)
@@ -37,7 +37,8 @@ low-word k v ws i h fits w = only-row k (k + 1) (12808 + i * 27) 27 (set ws k v)
 -- A NEW TASK
 
 module _ (home live mid : List ℕ) (j n : ℕ) (fits : homeWords ≤ length home) (flags : liveWords ≤ length live) (free : n < 2048) (is : n ≡ taskRows home)
-    (p : RowPut n ((at home 0 + 1) ∷ 0 ∷ 0 ∷ 0 ∷ take 23 (jobRow home j)) home mid) where
+  (p : RowPut n ((at home 0 + 1) ∷ 0 ∷ 0 ∷ 0 ∷ take 23 (jobRow home j)) home mid) where
+
   abbrev home' : List ℕ
   home' = set (set mid 0 (at home 0 + 1)) 3 (n + 1)
 
@@ -80,20 +81,18 @@ module _ (home live mid : List ℕ) (j n : ℕ) (fits : homeWords ≤ length hom
 
   pub adds-frame : TasksOnly home live (set (set mid 0 (at home 0 + 1)) 3 (n + 1)) (set live (256 + n) 0)
   adds-frame = record {
-    long = set-only 3 (n + 1) (set mid 0 (at home 0 + 1)) .long ∙ long ∙ p .only .long;
-    longLive = set-only (256 + n) 0 live .long;
-    words = λ k h a b. getD-set-other (set mid 0 (at home 0 + 1)) 3 k (n + 1) 0 b ∙ getD-set-other mid 0 k (at home 0 + 1) 0 a ∙ p .only .below k (omega arith);
-    heard = λ k h. getD-set-other live (256 + n) k 0 0 (λ e. omega arith);
-  }
+      long = set-only 3 (n + 1) (set mid 0 (at home 0 + 1)) .long ∙ long ∙ p .only .long;
+      longLive = set-only (256 + n) 0 live .long;
+      words = λ k h a b. getD-set-other (set mid 0 (at home 0 + 1)) 3 k (n + 1) 0 b ∙ getD-set-other mid 0 k (at home 0 + 1) 0 a ∙ p .only .below k (omega arith);
+      heard = λ k h. getD-set-other live (256 + n) k 0 0 (λ e. omega arith) }
 
   pub adds : (time : ℕ) → stateOf (set (set mid 0 (at home 0 + 1)) 3 (n + 1)) (set live (256 + n) 0) time ≡ more (jobFrom (jobRow home j)) (stateOf home live time)
   adds time = λ k. record {
-    now = time;
-    nextId = ap (λ (x : ℕ). x + 1) word-0 k;
-    machines = machines-same home live home' live' fits adds-frame k;
-    jobs = jobs-same home live home' live' fits adds-frame k;
-    tasks = tasks-now k;
-  }
+      now = time;
+      nextId = ap (λ (x : ℕ). x + 1) word-0 k;
+      machines = machines-same home live home' live' fits adds-frame k;
+      jobs = jobs-same home live home' live' fits adds-frame k;
+      tasks = tasks-now k }
 
 -- CLOSING HOLES
 
@@ -136,8 +135,7 @@ module _ (h0 l0 : List ℕ) (i to : ℕ) (home live : List ℕ) (within : i < 20
         count = ap length more' ∙ length-append (span (taskAt h0 l0) 0 i) (taskAt home live i) ∙ omega (arith, c .count, one);
         ahead = λ k a b. p .others k b (λ e. omega arith) ∙ c .ahead k (omega arith) b;
         last = p .last ∙ c .last;
-        frame = frame-then h0 l0 home live home' live' (c .frame) (p .frame);
-      }
+        frame = frame-then h0 l0 home live home' live' (c .frame) (p .frame) }
 
 pub closed : (h0 l0 home live : List ℕ) (n i to : ℕ) → homeWords ≤ length h0 → n ≡ taskRows h0 → i ≡ n → Closing h0 l0 i to home live → TasksNow (tasksOf h0 l0) h0 l0 (set home 3 to) live × (taskRows (set home 3 to) ≡ length (tasksOf h0 l0))
 closed h0 l0 home live n i to fits e j c =
@@ -146,11 +144,9 @@ closed h0 l0 home live n i to fits e j c =
     let l = c .low in
     let m : taskRows (set home 3 to) ≡ to = ap (λ (k : ℕ). min k 2048) w ∙ omega arith in
     let all : span (taskAt h0 l0) 0 i ≡ tasksOf h0 l0 = ap (span (taskAt h0 l0) 0) (j ∙ e) in
-    let rows' : span (taskAt (set home 3 to) live) 0 to ≡ span (taskAt home live) 0 to = span-same (taskAt (set home 3 to) live) (taskAt home live) 0 to (λ k a b. ap (λ (r : List ℕ). taskSlot r (at live (256 + k))) (low-word 3 to home k (omega arith) (omega arith) (omega arith))) in (
-      record {
-        tasks = ap (span (taskAt (set home 3 to) live) 0) m ∙ rows' ∙ c .list ∙ all;
-        last = getD-set-other home 3 0 to 0 (λ q. omega arith) ∙ c .last;
-        frame = record { long = set-only 3 to home .long ∙ c .frame .long; longLive = c .frame .longLive; words = λ k h p q. getD-set-other home 3 k to 0 q ∙ c .frame .words k h p q; heard = c .frame .heard };
-      },
-      m ∙ sym (ap length (sym all) ∙ c .count),
-    )
+    let rows' : span (taskAt (set home 3 to) live) 0 to ≡ span (taskAt home live) 0 to = span-same (taskAt (set home 3 to) live) (taskAt home live) 0 to (λ k a b. ap (λ (r : List ℕ). taskSlot r (at live (256 + k))) (low-word 3 to home k (omega arith) (omega arith) (omega arith))) in
+    (record {
+       tasks = ap (span (taskAt (set home 3 to) live) 0) m ∙ rows' ∙ c .list ∙ all;
+       last = getD-set-other home 3 0 to 0 (λ q. omega arith) ∙ c .last;
+       frame = record { long = set-only 3 to home .long ∙ c .frame .long; longLive = c .frame .longLive; words = λ k h p q. getD-set-other home 3 k to 0 q ∙ c .frame .words k h p q; heard = c .frame .heard } },
+     m ∙ sym (ap length (sym all) ∙ c .count))

@@ -79,7 +79,7 @@ module _ (home : List ℕ) (i : ℕ) (fits : homeWords ≤ length home) (within 
       (ap (λ (r : List ℕ). taskSlot r (at live (256 + i))) (set-row 27 (12808 + i * 27) 1 2 home) ∙ end-slot (taskRow home i) (at live (256 + i)) long e)
 
   pub places : (live : List ℕ) (m l : ℕ) → m < 65536 → 256 + i < length live →
-      TaskPut i (placeEach m l (taskAt home live i)) home live (set (set (set home (12808 + i * 27 + 1) 1) (12808 + i * 27 + 2) m) (12808 + i * 27 + 3) l) (set live (256 + i) 0)
+    TaskPut i (placeEach m l (taskAt home live i)) home live (set (set (set home (12808 + i * 27 + 1) 1) (12808 + i * 27 + 2) m) (12808 + i * 27 + 3) l) (set live (256 + i) 0)
   places live m l q w =
       let row : taskRow (set (set (set home (12808 + i * 27 + 1) 1) (12808 + i * 27 + 2) m) (12808 + i * 27 + 3) l) i ≡ set (set (set (taskRow home i) 1 1) 2 m) 3 l = set-row 27 (12808 + i * 27) 3 l _ ∙ ap (λ (r : List ℕ). set r 3 l) (set-row 27 (12808 + i * 27) 2 m _ ∙ ap (λ (r : List ℕ). set r 2 m) (set-row 27 (12808 + i * 27) 1 1 home)) in
       put-task home live _ _ i fits within _

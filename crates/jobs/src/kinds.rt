@@ -30,16 +30,7 @@ fn tags_from(kind: &[u64]) -> [u32; 8]
     requires { ⌜ length (now kind) ≡ 23 ⌝ }
     ensures { λ r. ⌜ r ≡ map low (take 8 (drop 6 (now (kind .entry)))) ⌝ }
 {
-    [
-        low_half(kind[6]),
-        low_half(kind[7]),
-        low_half(kind[8]),
-        low_half(kind[9]),
-        low_half(kind[10]),
-        low_half(kind[11]),
-        low_half(kind[12]),
-        low_half(kind[13]),
-    ]
+    [low_half(kind[6]), low_half(kind[7]), low_half(kind[8]), low_half(kind[9]), low_half(kind[10]), low_half(kind[11]), low_half(kind[12]), low_half(kind[13])]
 }
 
 // The spec in a kind.

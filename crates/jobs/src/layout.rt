@@ -15,35 +15,23 @@
 ghost use Rattle.jobs.specs.Layout.{TwiceFits, RoomToGrow};
 
 pub const LAST_ID: usize = 0;
-
 pub const JOB_ROWS: usize = 1;
-
 pub const MACHINE_ROWS: usize = 2;
-
 pub const TASK_ROWS: usize = 3;
 
 pub const JOB_BASE: usize = 8;
-
 pub const JOB_WIDTH: usize = 26;
-
 pub const MACHINE_BASE: usize = 6664;
-
 pub const MACHINE_WIDTH: usize = 24;
-
 pub const TASK_BASE: usize = 12808;
-
 pub const TASK_WIDTH: usize = 27;
-
 pub const HOME_WORDS: usize = 68104;
 
 pub const MAX_JOBS: usize = 256;
-
 pub const MAX_MACHINES: usize = 256;
-
 pub const MAX_TASKS: usize = 2048;
 
 pub const READY_BASE: usize = 256;
-
 pub const LIVE_WORDS: usize = 2304;
 
 // How many words `home` has. Twice that fits into the kept words, and with room for what comes later.

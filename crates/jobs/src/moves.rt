@@ -28,9 +28,7 @@ fn put_row(home: &mut [u64], i: usize, words: [u64; 27])
     requires within { ⌜ i < 2048 ⌝ }
     ensures { λ _. ⌜ RowPut i words (now (home .entry)) (now (home .exit)) ⌝ }
 {
-    home[TASK_BASE + i * TASK_WIDTH..TASK_BASE + i * TASK_WIDTH + TASK_WIDTH].copy_from_slice(
-        &words,
-    );
+    home[TASK_BASE + i * TASK_WIDTH..TASK_BASE + i * TASK_WIDTH + TASK_WIDTH].copy_from_slice(&words);
 }
 
 // Row `to` becomes as row `from` is.

@@ -40,15 +40,6 @@ pub fn name_from(kind: &[u64]) -> Name
 {
     Name {
         len: kind[14].min(64) as u8,
-        words: [
-            kind[15],
-            kind[16],
-            kind[17],
-            kind[18],
-            kind[19],
-            kind[20],
-            kind[21],
-            kind[22],
-        ],
+        words: [kind[15], kind[16], kind[17], kind[18], kind[19], kind[20], kind[21], kind[22]],
     }
 }

@@ -69,10 +69,7 @@ pub fn phase_from(row: &[u64], ready: u64) -> Phase
     ensures machine { λ r. ⌜ machineOf r ≡ cond (eqb (at (now (row .entry)) 1) 0) 0 (at (now (row .entry)) 2 % 65536) ⌝ }
     ensures life { λ r. ⌜ lifeOf r ≡ cond (eqb (at (now (row .entry)) 1) 0) 0 (at (now (row .entry)) 3) ⌝ }
 {
-    let place = Place {
-        machine: MachineId((row[2] % 65536) as u16),
-        life: Life(row[3]),
-    };
+    let place = Place { machine: MachineId((row[2] % 65536) as u16), life: Life(row[3]) };
     match row[1] {
         0 => Phase::Waiting,
         1 if ready == 0 => Phase::Told(place),

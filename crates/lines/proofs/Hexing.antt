@@ -42,7 +42,7 @@ two-more text n x y h =
 
 -- one byte more is two digits more
 pub hex-more : (bytes text front : Bytes) (i : ℕ) → i < length bytes → 4 + 2 * i + 1 < length text → take (4 + 2 * i) text ≡ front ++ hexText (take i bytes) → (x y : ℕ) → x ≡ digitChar (getD bytes i 0 / 16) → y ≡ digitChar (getD bytes i 0 % 16) →
-    take (4 + 2 * (i + 1)) (set (set text (4 + 2 * i) x) (4 + 2 * i + 1) y) ≡ front ++ hexText (take (i + 1) bytes)
+  take (4 + 2 * (i + 1)) (set (set text (4 + 2 * i) x) (4 + 2 * i + 1) y) ≡ front ++ hexText (take (i + 1) bytes)
 hex-more bytes text front i h l e x y p q =
     let n : 4 + 2 * (i + 1) ≡ 4 + 2 * i + 1 + 1 = omega arith in
     rw (n, take-more bytes i 0 h, hexText-push (take i bytes) (getD bytes i 0), ← p, ← q) (two-more text (4 + 2 * i) x y l ∙ ap (λ (t : Text). t ++ (x ∷ y ∷ [])) e ∙ append-assoc front (hexText (take i bytes)) (x ∷ y ∷ []))

@@ -37,7 +37,7 @@ pub seens-all : (n a : ℕ) (bs : Bytes) → length bs ≡ a + 9 * n → seensOf
 seens-all n a bs e = rw (how-many 9 n a bs (omega arith) e, nine n)
 
 pub add-read : (bs : Bytes) (k c m : ℕ) → length bs ≡ 11 + 4 * byteAt 10 bs → k ≡ field 2 0 bs → c ≡ field 4 2 bs → m ≡ field 4 6 bs →
-    readAdd bs ≡ meant (AddMachine k c m (tagsOf (take (length bs - 11) (drop 11 bs))))
+  readAdd bs ≡ meant (AddMachine k c m (tagsOf (take (length bs - 11) (drop 11 bs))))
 add-read bs k c m e p q r = rw (rest-all 11 bs, tags-all (byteAt 10 bs) 11 bs e, eq-eqb (length bs) (11 + 4 * byteAt 10 bs) e, p, q, r)
 
 -- one task of a report more
@@ -87,7 +87,7 @@ tags-front (suc t) bs =
 
 -- a likeness, by its parts
 pub like-read : (t : ℕ) (bs : Bytes) (i c m : ℕ) (a : Bool) → 14 + 4 * t ≤ length bs → i ≡ field 4 0 bs → c ≡ field 4 4 bs → m ≡ field 4 8 bs → a ≡ eqb (getD bs (13 + 4 * t) 0) 1 →
-    record { image = i; cpu = c; mem = m; tags = tagsOf (take (13 + 4 * t - 13) (drop 13 bs)); apart = a } ≡ specIn t bs
+  record { image = i; cpu = c; mem = m; tags = tagsOf (take (13 + 4 * t - 13) (drop 13 bs)); apart = a } ≡ specIn t bs
 like-read t bs i c m a l p q r s =
     let n : 13 + 4 * t - 13 ≡ 4 * t = omega arith in
     let k : length (take (4 * t) (drop 13 bs)) ≡ 4 * t = length-take-under (4 * t) (drop 13 bs) (let d = length-drop 13 bs in omega arith) in
@@ -96,13 +96,13 @@ like-read t bs i c m a l p q r s =
 
 -- a setting with a name of n bytes and t tags
 set-of : (n t : ℕ) (bs : Bytes) (a : Spec) (c l m : ℕ) → length bs ≡ n + 4 * t + 21 → byteAt (n + 4 * t + 14) bs ≤ 1 → a ≡ specIn t (take (length bs - (1 + n)) (drop (1 + n) bs)) →
-    c ≡ field 2 (n + 4 * t + 15) bs → l ≡ field 2 (n + 4 * t + 17) bs → m ≡ field 2 (n + 4 * t + 19) bs → readSetOf n t bs ≡ meant (SetJob (take (1 + n - 1) (drop 1 bs)) a c l m)
+  c ≡ field 2 (n + 4 * t + 15) bs → l ≡ field 2 (n + 4 * t + 17) bs → m ≡ field 2 (n + 4 * t + 19) bs → readSetOf n t bs ≡ meant (SetJob (take (1 + n - 1) (drop 1 bs)) a c l m)
 set-of n t bs a c l m e f s p q r =
     let k : 1 + n - 1 ≡ n = omega arith in
     rw (k, s, rest-all (1 + n) bs, p, q, r, eq-eqb (length bs) (n + 4 * t + 21) e, le-leb (byteAt (n + 4 * t + 14) bs) 1 f)
 
 pub set-read : (bs : Bytes) (a : Spec) (c l m : ℕ) → let n : ℕ = getD bs 0 0 in let t : ℕ = getD bs (n + 13) 0 in length bs ≡ n + 4 * t + 21 → getD bs (n + 4 * t + 14) 0 ≤ 1 → a ≡ specIn t (take (length bs - (1 + n)) (drop (1 + n) bs)) →
-    c ≡ field 2 (n + 4 * t + 15) bs → l ≡ field 2 (n + 4 * t + 17) bs → m ≡ field 2 (n + 4 * t + 19) bs → readSet bs ≡ meant (SetJob (take (1 + n - 1) (drop 1 bs)) a c l m)
+  c ≡ field 2 (n + 4 * t + 15) bs → l ≡ field 2 (n + 4 * t + 17) bs → m ≡ field 2 (n + 4 * t + 19) bs → readSet bs ≡ meant (SetJob (take (1 + n - 1) (drop 1 bs)) a c l m)
 set-read bs a c l m = set-of (getD bs 0 0) (getD bs (getD bs 0 0 + 13) 0) bs a c l m
 
 -- the first byte and the rest

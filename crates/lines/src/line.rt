@@ -20,10 +20,7 @@ impl Line {
     pub fn new() -> Self
         ensures { λ r. ⌜ Holds (r .bytes) (r .count) [] ⌝ }
     {
-        Line {
-            bytes: [0; ROOM],
-            count: 0,
-        }
+        Line { bytes: [0; ROOM], count: 0 }
     }
 
     // An empty line again.
@@ -70,11 +67,7 @@ impl Line {
         if self.count < 8 || value(&self.bytes[0..4]) + 4 != self.count {
             return &self.bytes[0..0];
         }
-        let held = if self.count < ROOM as u64 {
-            self.count as usize
-        } else {
-            ROOM
-        };
+        let held = if self.count < ROOM as u64 { self.count as usize } else { ROOM };
         &self.bytes[8..held]
     }
 

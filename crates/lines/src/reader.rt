@@ -51,10 +51,7 @@ impl Reader {
     pub fn new() -> Self
         ensures { λ r. ⌜ Reads (r .stage) (r .line .bytes) (r .line .count) lineOf ⌝ }
     {
-        Reader {
-            line: Line::new(),
-            stage: Stage::Start,
-        }
+        Reader { line: Line::new(), stage: Stage::Start }
     }
 
     // A new line of text begins.

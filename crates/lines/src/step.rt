@@ -37,11 +37,7 @@ fn letter(c: u8, wanted: u8, then: Stage) -> Stage
 fn begin(c: u8) -> Stage
     ensures { λ r. ⌜ ((bs ts : List ℕ) → resume r bs ts ≡ resume Stage.Start bs (c ∷ ts)) ⌝ }
 {
-    if c == b'i' {
-        Stage::I
-    } else {
-        letter(c, b't', Stage::T)
-    }
+    if c == b'i' { Stage::I } else { letter(c, b't', Stage::T) }
 }
 
 // The first digit of a byte.
@@ -59,14 +55,8 @@ fn low(high: Nibble, c: u8) -> Step
     ensures { λ r. ⌜ ((bs ts : List ℕ) → resume (r .stage) (bs ++ listIn (r .byte)) ts ≡ resume (Stage.Low high) bs (c ∷ ts)) ⌝ }
 {
     match nibble(c) {
-        Some(low) => Step {
-            stage: Stage::High,
-            byte: Some(high.value * 16 + low.value),
-        },
-        None => Step {
-            stage: Stage::Bad,
-            byte: None,
-        },
+        Some(low) => Step { stage: Stage::High, byte: Some(high.value * 16 + low.value) },
+        None => Step { stage: Stage::Bad, byte: None },
     }
 }
 

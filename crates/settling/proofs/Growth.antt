@@ -24,22 +24,20 @@ now-same home live = record { tasks = refl; last = refl; frame = frame-none home
 
 pub now-state : (home live home' live' : List ℕ) (time : ℕ) (ts : List s.Task) → homeWords ≤ length home → TasksNow ts home live home' live' → stateOf home' live' time ≡ withTasks ts (stateOf home live time)
 now-state home live home' live' time ts fits p = λ k. record {
-  now = time;
-  nextId = ap (λ (n : ℕ). n + 1) (p .last) k;
-  machines = machines-same home live home' live' fits (p .frame) k;
-  jobs = jobs-same home live home' live' fits (p .frame) k;
-  tasks = p .tasks k;
-}
+    now = time;
+    nextId = ap (λ (n : ℕ). n + 1) (p .last) k;
+    machines = machines-same home live home' live' fits (p .frame) k;
+    jobs = jobs-same home live home' live' fits (p .frame) k;
+    tasks = p .tasks k }
 
 last-number : (x : ℕ) → ltb x 4611686018427387903 ≡ ltb (x + 1) 4611686018427387904
-last-number x = elim (cases-bool (ltb x 4611686018427387903)) [
-  | inl t ↦ t ∙ sym (lt-ltb (x + 1) 4611686018427387904 (omega (arith, ltb-true x 4611686018427387903 t)))
-  | inr f ↦ f ∙ sym (le-ltb (x + 1) 4611686018427387904 (omega (arith, ltb-false x 4611686018427387903 f)))
-]
+last-number x = elim (cases-bool (ltb x 4611686018427387903))
+  [ inl t ↦ t ∙ sym (lt-ltb (x + 1) 4611686018427387904 (omega (arith, ltb-true x 4611686018427387903 t)))
+  | inr f ↦ f ∙ sym (le-ltb (x + 1) 4611686018427387904 (omega (arith, ltb-false x 4611686018427387903 f))) ]
 
 -- the four tests
 pub may-is : (j : s.Job) (home live : List ℕ) (time : ℕ) (y : Tally) → Tallied j (stateOf home live time) (taskAt home live) (taskRows home) y →
-    (ltb (y .new) (j .count) && ltb (y .all) (j .most) && ltb (y .total) 2048 && ltb (at home 0) 4611686018427387903) ≡ mayGrow j (stateOf home live time)
+  (ltb (y .new) (j .count) && ltb (y .all) (j .most) && ltb (y .total) 2048 && ltb (at home 0) 4611686018427387903) ≡ mayGrow j (stateOf home live time)
 may-is j home live time y k = rw (k .new, k .all, k .total, last-number (at home 0))
 
 -- what may grow has few tasks, and a number for the next
@@ -54,7 +52,7 @@ grows-not j st e = rw e
 
 -- room is made, and the task comes
 pub grows-so : (j : s.Job) (home live mid midl home' live' : List ℕ) (time r : ℕ) → homeWords ≤ length home → r < 256 → j ≡ jobFrom (jobRow home r) → mayGrow j (stateOf home live time) ≡ true → TasksNow (tasksOf home live) home live mid midl →
-    stateOf home' live' time ≡ more (jobFrom (jobRow mid r)) (stateOf mid midl time) → stateOf home' live' time ≡ grows j (stateOf home live time)
+  stateOf home' live' time ≡ more (jobFrom (jobRow mid r)) (stateOf mid midl time) → stateOf home' live' time ≡ grows j (stateOf home live time)
 grows-so j home live mid midl home' live' time r fits w is e p q =
     let same' : stateOf mid midl time ≡ stateOf home live time = now-state home live mid midl time (tasksOf home live) fits p in
     let row : jobFrom (jobRow mid r) ≡ j = ap jobFrom (job-row-same home live mid midl fits (p .frame) r w) ∙ sym is in

@@ -58,10 +58,9 @@ unfolding ended
 ended-mid a t b more r =
     let here : isTask (t .id) t ≡ true = eq-eqb (t .id) (t .id) refl in
     let before = none-before 0 a t b r in
-    elim (cases-bool (isWaiting (t .phase))) [
-      | inl y ↦ rw y (keep-mid (isTask (t .id)) a t b before here (none-behind 0 a t b r))
-      | inr y ↦ rw y (change-mid (isTask (t .id)) (phased s.Ending) a t b before here)
-    ]
+    elim (cases-bool (isWaiting (t .phase)))
+    [ inl y ↦ rw y (keep-mid (isTask (t .id)) a t b before here (none-behind 0 a t b r))
+    | inr y ↦ rw y (change-mid (isTask (t .id)) (phased s.Ending) a t b before here) ]
 
 -- one is placed
 pub place-mid : (a : List s.Task) (t : s.Task) (b : List s.Task) (m : s.Machine) (ms : List s.Machine) → Rising 0 (a ++ (t ∷ b)) → place t (m ∷ ms) (a ++ (t ∷ b)) ≡ a ++ (placed (m .num) (m .life) t ∷ b)

@@ -28,7 +28,7 @@ module _ (f : ℕ → List s.Task) (n : ℕ) where
   if-enough false o xs k = refl
 
   one-end : (idle busy : Option ℕ) (enough : Bool) (xs ys : List s.Task) → LastAt f n idle xs → LastAt f n busy ys →
-      OneAt f n (pickEnd enough (record { idle = idle; busy = busy })) (headOr (lastOf xs) (cond enough (lastOf ys) []))
+    OneAt f n (pickEnd enough (record { idle = idle; busy = busy })) (headOr (lastOf xs) (cond enough (lastOf ys) []))
   unfolding lastOf headOr
   one-end None busy enough xs ys k l = rw (ap lastOf k) (if-enough enough busy ys l)
   one-end (Some i) busy enough xs ys k l = (k .0, k .1, k .2, rw (k .3))

@@ -28,14 +28,14 @@ use Rattle.settling.proofs.Scans.{hole, full}
 
 -- the task in row i ends
 pub ends-state : (home live home' live' : List ℕ) (time i : ℕ) (t : s.Task) (xs : List s.Task) → homeWords ≤ length home → Numbered (stateOf home live time) → i < taskRows home → taskAt home live i ≡ t ∷ [] → xs ≡ t ∷ [] →
-    TaskPut i (endEach (taskAt home live i)) home live home' live' → stateOf home' live' time ≡ withTasks (ended xs (tasksOf home live)) (stateOf home live time)
+  TaskPut i (endEach (taskAt home live i)) home live home' live' → stateOf home' live' time ≡ withTasks (ended xs (tasksOf home live)) (stateOf home live time)
 ends-state home live home' live' time i t xs fits num w e q p =
     let a = tasksBefore home live i in
     let b = tasksBehind home live i in
     let list : tasksOf home live ≡ a ++ (t ∷ b) = tasks-at home live i w ∙ ap (λ (ys : List s.Task). a ++ (ys ++ b)) e in
     let rise : Rising 0 (a ++ (t ∷ b)) = subst (λ (ys : List s.Task). Rising 0 ys) list (num .0) in
     let out : ended xs (tasksOf home live) ≡ a ++ (endEach (taskAt home live i) ++ b) =
-    ap (λ (ys : List s.Task). ended ys (tasksOf home live)) q ∙ ap (ended (t ∷ [])) list ∙ ended-mid a t b [] rise ∙ ap (λ (ys : List s.Task). a ++ (endEach ys ++ b)) (sym e) in
+      ap (λ (ys : List s.Task). ended ys (tasksOf home live)) q ∙ ap (ended (t ∷ [])) list ∙ ended-mid a t b [] rise ∙ ap (λ (ys : List s.Task). a ++ (endEach ys ++ b)) (sym e) in
     state-put home live home' live' i _ fits w p time ∙ ap (λ (ys : List s.Task). withTasks ys (stateOf home live time)) (sym out)
 
 none-not : (xs : List s.Task) (t : s.Task) → xs ≡ t ∷ [] → not (none xs) ≡ true
@@ -76,19 +76,17 @@ one-at f n o p q xs e g k = subst (λ (z : Option ℕ). OneAt f n z xs) (sym e �
 module _ (j : s.Job) (home live : List ℕ) (time : ℕ) (fits : homeWords ≤ length home) (num : Numbered (stateOf home live time)) where
   -- an older one ends, and a new one may come
   pub for-old : (i : ℕ) (mid home' live' : List ℕ) → OneAt (taskAt home live) (taskRows home) (Some i) (oldToEnd j (stateOf home live time)) → TaskPut i (endEach (taskAt home live i)) home live mid live →
-      stateOf home' live' time ≡ grows j (stateOf mid live time) → TasksOnly mid live home' live' → Became (forJob j (stateOf home live time)) home live home' live' time
+    stateOf home' live' time ≡ grows j (stateOf mid live time) → TasksOnly mid live home' live' → Became (forJob j (stateOf home live time)) home live home' live' time
   for-old i mid home' live' k p q fr = record {
-    state = q ∙ ap (grows j) (ends-state home live mid live time i (k .0) (oldToEnd j (stateOf home live time)) fits num (k .1) (k .2) (k .3) p) ∙ sym (way-old j (stateOf home live time) (k .0) (k .3));
-    frame = frame-then home live mid live home' live' (p .frame) fr;
-  }
+      state = q ∙ ap (grows j) (ends-state home live mid live time i (k .0) (oldToEnd j (stateOf home live time)) fits num (k .1) (k .2) (k .3) p) ∙ sym (way-old j (stateOf home live time) (k .0) (k .3));
+      frame = frame-then home live mid live home' live' (p .frame) fr }
 
   -- one too many ends
   pub for-new : (i : ℕ) (home' : List ℕ) → oldToEnd j (stateOf home live time) ≡ [] → ltb (j .count) (length (newOnes j (alive (mine j (tasksOf home live))))) ≡ true → OneAt (taskAt home live) (taskRows home) (Some i) (newToEnd j (stateOf home live time)) →
-      TaskPut i (endEach (taskAt home live i)) home live home' live → Became (forJob j (stateOf home live time)) home live home' live time
+    TaskPut i (endEach (taskAt home live i)) home live home' live → Became (forJob j (stateOf home live time)) home live home' live time
   for-new i home' e f k p = record {
-    state = ends-state home live home' live time i (k .0) (newToEnd j (stateOf home live time)) fits num (k .1) (k .2) (k .3) p ∙ sym (way-new j (stateOf home live time) e f);
-    frame = p .frame;
-  }
+      state = ends-state home live home' live time i (k .0) (newToEnd j (stateOf home live time)) fits num (k .1) (k .2) (k .3) p ∙ sym (way-new j (stateOf home live time) e f);
+      frame = p .frame }
 
   pub for-none : oldToEnd j (stateOf home live time) ≡ [] → ltb (j .count) (length (newOnes j (alive (mine j (tasksOf home live))))) ≡ true → newToEnd j (stateOf home live time) ≡ [] → Became (forJob j (stateOf home live time)) home live home live time
   for-none e f k = record { state = ends-none (newToEnd j (stateOf home live time)) (stateOf home live time) k ∙ sym (way-new j (stateOf home live time) e f); frame = frame-none home live }
@@ -98,9 +96,8 @@ module _ (j : s.Job) (home live : List ℕ) (time : ℕ) (fits : homeWords ≤ l
 
 pub became-job : (home live home' live' : List ℕ) (time j : ℕ) (row : List ℕ) (x : s.Job) → row ≡ jobRow home j → (at row 0 ≡ 0 → ⊥) → x ≡ jobFrom row → Became (forJob x (stateOf home live time)) home live home' live' time → Became (forJobs (jobAt home j) (stateOf home live time)) home live home' live' time
 became-job home live home' live' time j row x r ne e b = record {
-  state = b .state ∙ ap (λ (y : s.Job). forJob y (stateOf home live time)) (e ∙ ap jobFrom r) ∙ jobs-one home j (stateOf home live time) row r ne;
-  frame = b .frame;
-}
+    state = b .state ∙ ap (λ (y : s.Job). forJob y (stateOf home live time)) (e ∙ ap jobFrom r) ∙ jobs-one home j (stateOf home live time) row r ne;
+    frame = b .frame }
 
 pub became-none : (home live : List ℕ) (time j : ℕ) (row : List ℕ) → row ≡ jobRow home j → at row 0 ≡ 0 → Became (forJobs (jobAt home j) (stateOf home live time)) home live home live time
 became-none home live time j row r z = record { state = jobs-none home j (stateOf home live time) row r z; frame = frame-none home live }

@@ -33,10 +33,9 @@ orphans-append : (js : List s.Job) (xs ys : List s.Task) → orphansEnd js (xs +
 unfolding orphansEnd
 orphans-append js [] ys = refl
 orphans-append js (x ∷ xs) ys =
-    elim (cases-bool (some (λ (j : s.Job). same (j .name) (x .job)) js)) [
-      | inl a ↦ rw (a, orphans-append js xs ys)
-      | inr a ↦ elim (cases-bool (isWaiting (x .phase))) [ inl b ↦ rw (a, b, orphans-append js xs ys) | inr b ↦ rw (a, b, orphans-append js xs ys) ]
-    ]
+    elim (cases-bool (some (λ (j : s.Job). same (j .name) (x .job)) js))
+    [ inl a ↦ rw (a, orphans-append js xs ys)
+    | inr a ↦ elim (cases-bool (isWaiting (x .phase))) [ inl b ↦ rw (a, b, orphans-append js xs ys) | inr b ↦ rw (a, b, orphans-append js xs ys) ] ]
 
 orphans-none : (js : List s.Job) → orphansEnd js [] ≡ []
 unfolding orphansEnd
@@ -91,8 +90,7 @@ swept-more h0 live home home' i fits w c p =
       ahead = λ k a b. p .others k b (λ e. omega arith) ∙ c .ahead k (omega arith) b;
       rows = p .rows ∙ c .rows;
       last = p .last ∙ c .last;
-      frame = frame-then h0 live home live home' live (c .frame) (p .frame);
-    }
+      frame = frame-then h0 live home live home' live (c .frame) (p .frame) }
 
 pub swept-all : (h0 live home : List ℕ) (n i : ℕ) → n ≡ taskRows h0 → i ≡ n → Swept h0 live i home → TasksNow (orphansEnd (jobsOf h0) (tasksOf h0 live)) h0 live home live
 swept-all h0 live home n i e j c =
@@ -126,8 +124,7 @@ stepped-more h0 l0 time j home live home' live' fits w c b =
     record {
       rest = ap (forJobs (span (jobAt h0) (j + 1) (jobRows h0 - (j + 1)))) now' ∙ sym (jobs-append (jobAt h0 j) (span (jobAt h0) (j + 1) (jobRows h0 - (j + 1))) (stateOf home live time)) ∙ ap (λ (js : List s.Job). forJobs js (stateOf home live time)) (sym (span-rest (jobAt h0) j (jobRows h0) w)) ∙ c .rest;
       numbered = subst (λ (u : s.State). Tidy u) (sym now') (steps-are Tidy (jobAt h0 j) (stateOf home live time) (λ x i u k. tidy-step x u k) (c .numbered));
-      frame = frame-then h0 l0 home live home' live' (c .frame) (b .frame);
-    }
+      frame = frame-then h0 l0 home live home' live' (c .frame) (b .frame) }
 
 pub stepped-all : (h0 l0 : List ℕ) (time j : ℕ) (home live : List ℕ) → jobRows h0 ≤ j → Stepped h0 l0 time j home live → Became (forJobs (jobsOf h0) (stateOf h0 l0 time)) h0 l0 home live time
 stepped-all h0 l0 time j home live h c = record { state = sym (forJobs-none (stateOf home live time)) ∙ ap (λ (js : List s.Job). forJobs js (stateOf home live time)) (sym (span-end (jobAt h0) j (jobRows h0) h)) ∙ c .rest; frame = c .frame }

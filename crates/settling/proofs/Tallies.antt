@@ -45,10 +45,9 @@ module _ (f : ℕ → List s.Task) (i : ℕ) where
     picked x o e k =
         let a : F (span f 0 i) ≡ keep p (span f 0 i) = is (span f 0 i) in
         let b : F (span f 0 (i + 1)) ≡ keep p (span f 0 i ++ x ∷ []) = is (span f 0 (i + 1)) ∙ ap (keep p) (more-one x e) in
-        elim (cases-bool (p x)) [
-          | inl t ↦ rw (t, b, keep-yes p (span f 0 i) x t) (x, (omega arith), e, last-push (keep p (span f 0 i)) x)
-          | inr n ↦ rw (n, b, keep-no p (span f 0 i) x n) (wider o _ (rw a at k))
-        ]
+        elim (cases-bool (p x))
+        [ inl t ↦ rw (t, b, keep-yes p (span f 0 i) x t) (x, (omega arith), e, last-push (keep p (span f 0 i)) x)
+        | inr n ↦ rw (n, b, keep-no p (span f 0 i) x n) (wider o _ (rw a at k)) ]
 
     few : (n : ℕ) → n ≡ length (F (span f 0 i)) → length (span f 0 i) ≤ i → n ≤ i
     few n e h = omega (arith, ap length (is (span f 0 i)), length-keep p (span f 0 i))
@@ -84,27 +83,19 @@ module _ (j : s.Job) (st : s.State) where
 
   one-more : (f : ℕ → List s.Task) (i : ℕ) (y : Tally) (x : s.Task) → f i ≡ x ∷ [] → Tallied j st f i y → Tallied j st f (i + 1) (stepped j st i x y)
   one-more f i y x e k = record {
-    total = ap (λ (n : ℕ). n + 1) (k .total) ∙ sym (ap length (more-one f i x e) ∙ length-push (span f 0 i) x);
-    all = counted f i (mine j) (isMine j st) (λ _. refl) x (y .all) e (k .all);
-    new = counted f i (λ ts. newOnes j (alive (mine j ts))) (isNew j st) is-new x (y .new) e (k .new);
-    ready = counted f i (λ ts. readyOnes (mine j ts)) (λ x. isMine j st x && isReady (x .phase)) is-ready x (y .ready) e (k .ready);
-    oldIdle = picked f i (λ ts. spares st (oldOnes j (alive (mine j ts)))) (λ x. isOld j st x && isSpare j st x) is-old-idle x (y .old .idle) e (k .oldIdle);
-    oldBusy = picked f i (λ ts. readyOnes (oldOnes j (alive (mine j ts)))) (λ x. isOld j st x && isReady (x .phase)) is-old-busy x (y .old .busy) e (k .oldBusy);
-    newIdle = picked f i (λ ts. spares st (newOnes j (alive (mine j ts)))) (λ x. isNew j st x && isSpare j st x) is-new-idle x (y .newer .idle) e (k .newIdle);
-    newBusy = picked f i (λ ts. readyOnes (newOnes j (alive (mine j ts)))) (λ x. isNew j st x && isReady (x .phase)) is-new-busy x (y .newer .busy) e (k .newBusy);
-  }
+      total = ap (λ (n : ℕ). n + 1) (k .total) ∙ sym (ap length (more-one f i x e) ∙ length-push (span f 0 i) x);
+      all = counted f i (mine j) (isMine j st) (λ _. refl) x (y .all) e (k .all);
+      new = counted f i (λ ts. newOnes j (alive (mine j ts))) (isNew j st) is-new x (y .new) e (k .new);
+      ready = counted f i (λ ts. readyOnes (mine j ts)) (λ x. isMine j st x && isReady (x .phase)) is-ready x (y .ready) e (k .ready);
+      oldIdle = picked f i (λ ts. spares st (oldOnes j (alive (mine j ts)))) (λ x. isOld j st x && isSpare j st x) is-old-idle x (y .old .idle) e (k .oldIdle);
+      oldBusy = picked f i (λ ts. readyOnes (oldOnes j (alive (mine j ts)))) (λ x. isOld j st x && isReady (x .phase)) is-old-busy x (y .old .busy) e (k .oldBusy);
+      newIdle = picked f i (λ ts. spares st (newOnes j (alive (mine j ts)))) (λ x. isNew j st x && isSpare j st x) is-new-idle x (y .newer .idle) e (k .newIdle);
+      newBusy = picked f i (λ ts. readyOnes (newOnes j (alive (mine j ts)))) (λ x. isNew j st x && isReady (x .phase)) is-new-busy x (y .newer .busy) e (k .newBusy) }
 
   same-more : (f : ℕ → List s.Task) (i : ℕ) (y : Tally) → f i ≡ [] → Tallied j st f i y → Tallied j st f (i + 1) y
   same-more f i y e k = let m = more-none f i e in record {
-    total = rw m (k .total);
-    all = rw m (k .all);
-    new = rw m (k .new);
-    ready = rw m (k .ready);
-    oldIdle = rw m (wider f i _ _ (k .oldIdle));
-    oldBusy = rw m (wider f i _ _ (k .oldBusy));
-    newIdle = rw m (wider f i _ _ (k .newIdle));
-    newBusy = rw m (wider f i _ _ (k .newBusy));
-  }
+      total = rw m (k .total); all = rw m (k .all); new = rw m (k .new); ready = rw m (k .ready);
+      oldIdle = rw m (wider f i _ _ (k .oldIdle)); oldBusy = rw m (wider f i _ _ (k .oldBusy)); newIdle = rw m (wider f i _ _ (k .newIdle)); newBusy = rw m (wider f i _ _ (k .newBusy)) }
 
   pub tallied-more : (f : ℕ → List s.Task) (i : ℕ) (y : Tally) (xs : List s.Task) → f i ≡ xs → length xs ≤ 1 → Tallied j st f i y → Tallied j st f (i + 1) (steppedBy j st i xs y)
   tallied-more f i y [] e h k = same-more f i y e k
@@ -121,12 +112,11 @@ span-few f h (suc i) =
 
 pub tallied-few : (j : s.Job) (st : s.State) (f : ℕ → List s.Task) (i : ℕ) (y : Tally) → ((k : ℕ) → length (f k) ≤ 1) → Tallied j st f i y → (y .total ≤ i) × (y .all ≤ i) × (y .new ≤ i) × (y .ready ≤ i)
 tallied-few j st f i y h k =
-    let l = span-few f h i in (
-      omega (arith, k .total),
-      few f i (mine j) (isMine j st) (λ _. refl) (y .all) (k .all) l,
-      few f i (λ ts. newOnes j (alive (mine j ts))) (isNew j st) (is-new j st) (y .new) (k .new) l,
-      few f i (λ ts. readyOnes (mine j ts)) (λ x. isMine j st x && isReady (x .phase)) (is-ready j st) (y .ready) (k .ready) l,
-    )
+    let l = span-few f h i in
+    (omega (arith, k .total),
+     few f i (mine j) (isMine j st) (λ _. refl) (y .all) (k .all) l,
+     few f i (λ ts. newOnes j (alive (mine j ts))) (isNew j st) (is-new j st) (y .new) (k .new) l,
+     few f i (λ ts. readyOnes (mine j ts)) (λ x. isMine j st x && isReady (x .phase)) (is-ready j st) (y .ready) (k .ready) l)
 
 -- THE WAYS THROUGH A STEP
 
@@ -148,11 +138,11 @@ module _ (j : s.Job) (st : s.State) (i : ℕ) (x : s.Task) (y : Tally) where
       rw (e, f, ending-not-ready (x .phase) f) (λ k. record { total = y .total + 1; all = y .all + 1; new = b k; ready = c k; old = y .old; newer = y .newer })
 
   pub step-new : (u v : Bool) → isMine j st x ≡ true → isEnding (x .phase) ≡ false → eqb (x .version) (j .version) ≡ true → u ≡ isReady (x .phase) → v ≡ isSpare j st x →
-      record { total = y .total + 1; all = y .all + 1; new = y .new + 1; ready = y .ready + cond u 1 0; old = y .old; newer = record { idle = cond v (Some i) (y .newer .idle); busy = cond u (Some i) (y .newer .busy) } } ≡ stepped j st i x y
+    record { total = y .total + 1; all = y .all + 1; new = y .new + 1; ready = y .ready + cond u 1 0; old = y .old; newer = record { idle = cond v (Some i) (y .newer .idle); busy = cond u (Some i) (y .newer .busy) } } ≡ stepped j st i x y
   step-new u v e f g p q = rw (e, f, g, p, q)
 
   pub step-old : (u v : Bool) → isMine j st x ≡ true → isEnding (x .phase) ≡ false → eqb (x .version) (j .version) ≡ false → u ≡ isReady (x .phase) → v ≡ isSpare j st x →
-      record { total = y .total + 1; all = y .all + 1; new = y .new; ready = y .ready + cond u 1 0; old = record { idle = cond v (Some i) (y .old .idle); busy = cond u (Some i) (y .old .busy) }; newer = y .newer } ≡ stepped j st i x y
+    record { total = y .total + 1; all = y .all + 1; new = y .new; ready = y .ready + cond u 1 0; old = record { idle = cond v (Some i) (y .old .idle); busy = cond u (Some i) (y .old .busy) }; newer = y .newer } ≡ stepped j st i x y
   step-old u v e f g p q = let b : y .new ≡ y .new + 0 = omega arith in rw (e, f, g, p, q) (λ k. record { total = y .total + 1; all = y .all + 1; new = b k; ready = y .ready + cond (isReady (x .phase)) 1 0; old = record { idle = cond (isSpare j st x) (Some i) (y .old .idle); busy = cond (isReady (x .phase)) (Some i) (y .old .busy) }; newer = y .newer })
 
 -- A TASK'S ROW AND ITS KIND, as they are read
@@ -196,8 +186,8 @@ byte-is true = refl
 byte-is false = refl
 
 module _ (home live : List ℕ) (time i : ℕ) (row kind : List ℕ) (r : row ≡ taskRow home i) (k : kind ≡ drop 4 row) (j : s.Job) (y : Tally)
-    (mine' : Bool) (m : mine' ≡ same (j .name) (nameFrom kind)) (yes' : mine' ≡ true) (p : s.Phase) (a : ℕ) (ph : p ≡ phaseFrom (at row 1) (at live (256 + i))) (mc : a ≡ cond (eqb (at row 1) 0) 0 (at row 2 % 65536))
-    (end : isEnding p ≡ false) (full' : at row 0 ≡ 0 → ⊥) (up idle : Bool) (u : up ≡ isReady p) (v : idle ≡ (not (isReady p) && (isWaiting p || some (isPresent time a) (machinesOf home live)))) where
+  (mine' : Bool) (m : mine' ≡ same (j .name) (nameFrom kind)) (yes' : mine' ≡ true) (p : s.Phase) (a : ℕ) (ph : p ≡ phaseFrom (at row 1) (at live (256 + i))) (mc : a ≡ cond (eqb (at row 1) 0) 0 (at row 2 % 65536))
+  (end : isEnding p ≡ false) (full' : at row 0 ≡ 0 → ⊥) (up idle : Bool) (u : up ≡ isReady p) (v : idle ≡ (not (isReady p) && (isWaiting p || some (isPresent time a) (machinesOf home live)))) where
   x : s.Task
   x = taskFrom (taskRow home i) (at live (256 + i))
 
@@ -214,14 +204,14 @@ module _ (home live : List ℕ) (time i : ℕ) (row kind : List ℕ) (r : row �
   lives = ap isEnding (sym now-p) ∙ end
 
   pub takes-new : (w : ℕ) → w ≡ versionFrom kind → w ≡ j .version →
-      record { total = y .total + 1; all = y .all + 1; new = y .new + 1; ready = y .ready + boolByte up; old = y .old; newer = record { idle = cond idle (Some i) (y .newer .idle); busy = cond up (Some i) (y .newer .busy) } } ≡ steppedBy j (stateOf home live time) i (taskAt home live i) y
+    record { total = y .total + 1; all = y .all + 1; new = y .new + 1; ready = y .ready + boolByte up; old = y .old; newer = record { idle = cond idle (Some i) (y .newer .idle); busy = cond up (Some i) (y .newer .busy) } } ≡ steppedBy j (stateOf home live time) i (taskAt home live i) y
   takes-new w q e =
       (λ z. record { total = y .total + 1; all = y .all + 1; new = y .new + 1; ready = y .ready + byte-is up z; old = y .old; newer = record { idle = cond idle (Some i) (y .newer .idle); busy = cond up (Some i) (y .newer .busy) } }) ∙
       step-new j (stateOf home live time) i (taskFrom (taskRow home i) (at live (256 + i))) y up idle ours lives (eq-eqb _ (j .version) (sym (version-is home live i row kind r k) ∙ sym q ∙ e)) (u ∙ ap isReady now-p) (v ∙ spare-at time (machinesOf home live) _ _ _ _ now-p now-a) ∙
       ap (λ (xs : List s.Task). steppedBy j (stateOf home live time) i xs y) (sym (row-full home live row i r full'))
 
   pub takes-old : (w : ℕ) → w ≡ versionFrom kind → (w ≡ j .version → ⊥) →
-      record { total = y .total + 1; all = y .all + 1; new = y .new; ready = y .ready + boolByte up; old = record { idle = cond idle (Some i) (y .old .idle); busy = cond up (Some i) (y .old .busy) }; newer = y .newer } ≡ steppedBy j (stateOf home live time) i (taskAt home live i) y
+    record { total = y .total + 1; all = y .all + 1; new = y .new; ready = y .ready + boolByte up; old = record { idle = cond idle (Some i) (y .old .idle); busy = cond up (Some i) (y .old .busy) }; newer = y .newer } ≡ steppedBy j (stateOf home live time) i (taskAt home live i) y
   takes-old w q e =
       (λ z. record { total = y .total + 1; all = y .all + 1; new = y .new; ready = y .ready + byte-is up z; old = record { idle = cond idle (Some i) (y .old .idle); busy = cond up (Some i) (y .old .busy) }; newer = y .newer }) ∙
       step-old j (stateOf home live time) i (taskFrom (taskRow home i) (at live (256 + i))) y up idle ours lives (ne-eqb _ (j .version) (λ z. e (q ∙ version-is home live i row kind r k ∙ z))) (u ∙ ap isReady now-p) (v ∙ spare-at time (machinesOf home live) _ _ _ _ now-p now-a) ∙

@@ -46,13 +46,12 @@ module _ (j : s.Job) (st : s.State) where
   -- the tally with one more task, in row i
   abbrev pub stepped : ℕ → s.Task → Tally → Tally
   stepped i x y = record {
-    total = y .total + 1;
-    all = y .all + cond (isMine x) 1 0;
-    new = y .new + cond (isNew x) 1 0;
-    ready = y .ready + cond (isMine x && isReady (x .phase)) 1 0;
-    old = record { idle = cond (isOld x && isSpare x) (Some i) (y .old .idle); busy = cond (isOld x && isReady (x .phase)) (Some i) (y .old .busy) };
-    newer = record { idle = cond (isNew x && isSpare x) (Some i) (y .newer .idle); busy = cond (isNew x && isReady (x .phase)) (Some i) (y .newer .busy) };
-  }
+      total = y .total + 1;
+      all = y .all + cond (isMine x) 1 0;
+      new = y .new + cond (isNew x) 1 0;
+      ready = y .ready + cond (isMine x && isReady (x .phase)) 1 0;
+      old = record { idle = cond (isOld x && isSpare x) (Some i) (y .old .idle); busy = cond (isOld x && isReady (x .phase)) (Some i) (y .old .busy) };
+      newer = record { idle = cond (isNew x && isSpare x) (Some i) (y .newer .idle); busy = cond (isNew x && isReady (x .phase)) (Some i) (y .newer .busy) } }
 
   -- the tally with one more row: a hole adds nothing
   abbrev pub steppedBy : ℕ → List s.Task → Tally → Tally

@@ -101,18 +101,8 @@ pub fn tally_of(home: &[u64], live: &[u64], job: &Job, time: u64) -> Tally
     requires flags { ⌜ liveWords ≤ length (now live) ⌝ }
     ensures { λ r. ⌜ Tallied (jobOf (now (job .entry))) (stateOf (now (home .entry)) (now (live .entry)) time) (taskAt (now (home .entry)) (now (live .entry))) (taskRows (now (home .entry))) r ⌝ }
 {
-    let none = Picks {
-        idle: None,
-        busy: None,
-    };
-    let mut tally = Tally {
-        total: 0,
-        all: 0,
-        new: 0,
-        ready: 0,
-        old: none,
-        newer: none,
-    };
+    let none = Picks { idle: None, busy: None };
+    let mut tally = Tally { total: 0, all: 0, new: 0, ready: 0, old: none, newer: none };
     for i in 0..task_rows(home) {
         tally = step(tally, home, live, i, job, time);
     }

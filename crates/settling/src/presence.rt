@@ -58,11 +58,6 @@ pub fn surely(home: &[u64], live: &[u64], phase: Phase, time: u64) -> bool
 {
     match phase {
         Phase::Waiting => true,
-        Phase::Told(place) | Phase::Ready(place) | Phase::Ending(place) => heard_of(
-            home,
-            live,
-            place.machine,
-            time,
-        ),
+        Phase::Told(place) | Phase::Ready(place) | Phase::Ending(place) => heard_of(home, live, place.machine, time),
     }
 }

@@ -18,5 +18,4 @@ returns c =
     let put : RowPut n ((at home 0 + 1) ∷ 0 ∷ 0 ∷ 0 ∷ take 23 (jobRow home (c .args .j))) home (c .put-row .last .home) = subst (λ (r : List ℕ). RowPut n r home (c .put-row .last .home)) row (c .put-row .ensures) in
     record {
       state = adds home live (c .put-row .last .home) (c .args .j) n (c .pre .words) (c .pre .flags) (omega arith) (c .task-rows-n .ensures .is) put;
-      frame = adds-frame home live (c .put-row .last .home) (c .args .j) n (c .pre .words) (c .pre .flags) (omega arith) (c .task-rows-n .ensures .is) put;
-    }
+      frame = adds-frame home live (c .put-row .last .home) (c .args .j) n (c .pre .words) (c .pre .flags) (omega arith) (c .task-rows-n .ensures .is) put }

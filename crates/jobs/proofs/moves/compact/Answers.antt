@@ -18,9 +18,8 @@ loop-i-again c =
     let l0 = c .args .live .now in
     let id : at (c .task-row .result .now) 0 ≡ at (taskRow (c .loop-i .home) (c .loop-i .i)) 0 = ap (λ (r : List ℕ). at r 0) (c .task-row .ensures .is) in
     elim (c .if-task-row-ne0 .came) [
-      | then-task-row-ne0 w ↦ rw (w .to-is, w .home-is, w .live-is) (closing-move h0 l0 (c .loop-i .i) (c .loop-i .to) (c .loop-i .home) (c .loop-i .live) (omega arith) (c .loop-i .inv) _ _ (λ e. w .if-task-row-ne0 .taken (id ∙ e)) (w .copy-task .ensures))
-      | else-task-row-ne0 w ↦ rw (w .to-is, w .home-is, w .live-is) (closing-hole h0 l0 (c .loop-i .i) (c .loop-i .to) (c .loop-i .home) (c .loop-i .live) (omega arith) (c .loop-i .inv) (sym id ∙ w .if-task-row-ne0 .left))
-    ]
+      then-task-row-ne0 w ↦ rw (w .to-is, w .home-is, w .live-is) (closing-move h0 l0 (c .loop-i .i) (c .loop-i .to) (c .loop-i .home) (c .loop-i .live) (omega arith) (c .loop-i .inv) _ _ (λ e. w .if-task-row-ne0 .taken (id ∙ e)) (w .copy-task .ensures))
+    | else-task-row-ne0 w ↦ rw (w .to-is, w .home-is, w .live-is) (closing-hole h0 l0 (c .loop-i .i) (c .loop-i .to) (c .loop-i .home) (c .loop-i .live) (omega arith) (c .loop-i .inv) (sym id ∙ w .if-task-row-ne0 .left)) ]
 
 pub returns : need.returns
 returns c =

@@ -20,9 +20,8 @@ returns-then-row-eq0 c =
     let r = c .machine-row-row .result .now in
     let h = at (c .args .live .now) (c .args .i) in
     let e : some p (machineSlot r h) ≡ false = elim (c .then-row-eq0 .came) [
-      | then-row-eq0·by·then-row-eq0 w ↦ machine-hole p r h (w .if-row-eq0 .taken)
-      | then-row-eq0·by·else-row-eq0·then-num-row w ↦ machine-full p r h (w .if-row-eq0 .left) ∙ and-left _ (present (c .args .time) (machineFrom r h)) (ne-eqb (c .args .num .0) (at r 1 % 65536) (w .if-num-row .taken))
-    ] in
+        then-row-eq0·by·then-row-eq0 w ↦ machine-hole p r h (w .if-row-eq0 .taken)
+      | then-row-eq0·by·else-row-eq0·then-num-row w ↦ machine-full p r h (w .if-row-eq0 .left) ∙ and-left _ (present (c .args .time) (machineFrom r h)) (ne-eqb (c .args .num .0) (at r 1 % 65536) (w .if-num-row .taken)) ] in
     sym e ∙ ap (λ (x : List ℕ). some p (machineSlot x h)) (c .machine-row-row .ensures .is)
 
 pub returns : need.returns

@@ -18,12 +18,11 @@ use Rattle.settling.proofs.stepping.step_for.Needs as need
 
 pub grow-requires : need.grow-requires
 grow-requires c κs = record {
-  words = search needs;
-  flags = c .pre .flags;
-  within = c .pre .within;
-  job = c .pre .job ∙ ap jobFrom (sym (job-row-same (c .args .home .now) (c .args .live .now) (c .end-task .last .home) (c .args .live .now) (c .pre .words) (c .end-task .ensures (c .args .live .now) .frame) (c .args .j) (c .pre .within)));
-  tally = c .tally-of-rest .ensures;
-}
+    words = search needs;
+    flags = c .pre .flags;
+    within = c .pre .within;
+    job = c .pre .job ∙ ap jobFrom (sym (job-row-same (c .args .home .now) (c .args .live .now) (c .end-task .last .home) (c .args .live .now) (c .pre .words) (c .end-task .ensures (c .args .live .now) .frame) (c .args .j) (c .pre .within)));
+    tally = c .tally-of-rest .ensures }
 
 pub returns-in-Some : need.returns-in-Some
 returns-in-Some c =

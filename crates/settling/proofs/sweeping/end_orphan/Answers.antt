@@ -20,11 +20,11 @@ returns-in-None c = λ live.
     let home = c .args .home .now in
     let n : nameOf (c .name-from-name .result) ≡ nameFrom (drop 4 (taskRow home (c .args .i))) = c .name-from-name .ensures ∙ job-is home live (c .args .i) (c .task-row-row .result .now) (c .task-kind .result .now) (c .task-row-row .ensures .is) (c .task-kind .ensures .is) in
     orphan-put home live (c .end-task .last .home) (c .args .i) (taskFrom (taskRow home (c .args .i)) (at live _)) (row-full home live (c .task-row-row .result .now) (c .args .i) (c .task-row-row .ensures .is) (c .if-row-eq0 .left))
-    (ap (λ (x : s.Name). find (isJob x) (jobsOf home)) (sym n) ∙ c .in-None .ensures tt) (c .end-task .ensures live)
+      (ap (λ (x : s.Name). find (isJob x) (jobsOf home)) (sym n) ∙ c .in-None .ensures tt) (c .end-task .ensures live)
 
 pub returns-in-Some : need.returns-in-Some
 returns-in-Some c = λ live.
     let home = c .args .home .now in
     let n : nameOf (c .name-from-name .result) ≡ nameFrom (drop 4 (taskRow home (c .args .i))) = c .name-from-name .ensures ∙ job-is home live (c .args .i) (c .task-row-row .result .now) (c .task-kind .result .now) (c .task-row-row .ensures .is) (c .task-kind .ensures .is) in
     orphan-wanted home live (c .args .i) (taskFrom (taskRow home (c .args .i)) (at live _)) (c .in-Some .ensures tt .0) (row-full home live (c .task-row-row .result .now) (c .args .i) (c .task-row-row .ensures .is) (c .if-row-eq0 .left))
-    (ap (λ (x : s.Name). find (isJob x) (jobsOf home)) (sym n) ∙ c .in-Some .ensures tt .3)
+      (ap (λ (x : s.Name). find (isJob x) (jobsOf home)) (sym n) ∙ c .in-Some .ensures tt .3)
