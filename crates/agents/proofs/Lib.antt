@@ -4,3 +4,6 @@ pub mod Moving
 pub mod Reports
 pub mod Around
 pub mod Texts
+pub mod Fields
+pub mod Lives
+pub mod Answered

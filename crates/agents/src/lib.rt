@@ -7,6 +7,7 @@ pub mod heard;
 pub mod life;
 pub mod moves;
 pub mod text;
+pub mod theorems;
 pub mod order;
 pub mod read;
 pub mod report;
