@@ -9,5 +9,4 @@ pub mod Ends
 pub mod Reads
 pub mod Puts
 pub mod Replied
-pub mod Herd
 pub mod Listings

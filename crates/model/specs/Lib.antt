@@ -9,5 +9,6 @@ pub mod Ways
 pub mod Promise
 pub mod Wire
 pub mod Lines
+pub mod Answers
 pub mod Always
 pub mod Cases

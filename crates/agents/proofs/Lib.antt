@@ -1,0 +1,9 @@
+pub mod Lists
+pub mod Orders
+pub mod Moving
+pub mod Reports
+pub mod Around
+pub mod Texts
+pub mod Fields
+pub mod Lives
+pub mod Answered
