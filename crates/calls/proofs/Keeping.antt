@@ -14,7 +14,7 @@ use Rattle.calls.specs.declared.answer.Answer.the-variants.{Lines}
 use Rattle.calls.specs.Acted.{Acted}
 use Rattle.calls.specs.Sound.{soundWords}
 use Rattle.jobs.specs.Tables.{stateOf}
-use Rattle.calls.proofs.Sounds.{sound-fine, fine-sound}
+use Rattle.calls.proofs.Soundness.{sound-fine, fine-sound}
 use denote.Ref.{RefT}
 
 pub fine-acts : (c : m.Call) (s : State) → Fine s → Fine (m.acts c s .state)

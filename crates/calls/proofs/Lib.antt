@@ -9,7 +9,6 @@ pub mod News
 pub mod Noted
 pub mod Outcomes
 pub mod Timed
-pub mod Sounds
 pub mod Keeping
 pub mod TagBytes
 pub mod Naming

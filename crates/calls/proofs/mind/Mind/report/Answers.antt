@@ -1,7 +1,7 @@
 use native.Mathlib.Omega.{arith}
 use borrow.Author.Needs.{needs}
 use Rattle.calls.proofs.Keeping.{acted-sound}
-use Rattle.calls.proofs.Sounds.{sound-fine}
+use Rattle.calls.proofs.Soundness.{sound-fine}
 use Rattle.calls.proofs.mind.Mind.report.Needs as need
 
 pub report-requires : need.report-requires

@@ -1,6 +1,6 @@
 use borrow.Author.Needs.{needs}
 use Rattle.calls.proofs.Keeping.{acted-sound}
-use Rattle.calls.proofs.Sounds.{sound-fine}
+use Rattle.calls.proofs.Soundness.{sound-fine}
 use Rattle.calls.proofs.mind.Mind.tell.Needs as need
 
 pub tell-requires : need.tell-requires
