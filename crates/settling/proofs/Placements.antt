@@ -18,7 +18,10 @@ use Rattle.model.proofs.Lists.Kept.{in-keep}
 use Rattle.model.proofs.Tasks.ByNumber.{Rising}
 use Rattle.model.proofs.Tasks.Placing.{Queue, Put, put-id, Never, places-pass}
 use Rattle.model.proofs.Tasks.Steps.{orphans-pass}
-use Rattle.model.proofs.Settles.{Tidy, tidy-pass, tidy-unplaced, tidy-settle, orphan-id}
+use Rattle.model.specs.Calls.{Show}
+use Rattle.model.specs.Promise.{Good}
+use Rattle.model.proofs.Settles.{Tidy, tidy-pass, tidy-unplaced, tidy-settle, orphan-id, fine-from}
+use Rattle.model.proofs.Acts.Good.{stay-good}
 use Rattle.jobs.specs.Layout.{homeWords}
 use Rattle.jobs.specs.Rows.{at, span}
 use Rattle.jobs.specs.Tables.{phaseFrom, taskAt, taskRow, taskRows, tasksOf, tasksBefore, tasksBehind, jobsOf, machinesOf, machineAt, machineRow, machineFrom, stateOf, TasksOnly, TaskPut, TasksNow}
@@ -178,8 +181,17 @@ module _ (home live mid home1 live1 home2 live2 : List ℕ) (time : ℕ) (fits :
       frame = frame-then home live home1 live1 home2 live2 (frame-then home live mid live home1 live1 (o .frame) (j .frame)) (p .frame);
     }
 
-    pub passed-numbered : Became (placing (stateOf home1 live1 time)) home1 live1 home2 live2 time → Numbered (stateOf home2 live2 time)
-    passed-numbered p = subst (λ (u : s.State). Tidy u) (sym (p .state ∙ ap placing stepped)) (tidy-settle (stateOf home live time) num)
+-- what a pass keeps
+module _ (home live home2 live2 : List ℕ) (time : ℕ) where
+  pub numbered-stays : Numbered (stateOf home live time) → Became (settle (stateOf home live time)) home live home2 live2 time → Numbered (stateOf home2 live2 time)
+  numbered-stays num b = subst (λ (u : s.State). Tidy u) (sym (b .state)) (tidy-settle (stateOf home live time) num)
+
+  pub good-stays : Became (settle (stateOf home live time)) home live home2 live2 time → Good (stateOf home live time) → Good (stateOf home2 live2 time)
+  good-stays b g = subst (λ (u : s.State). Good u) (sym (b .state)) (stay-good (stateOf home live time) (Show []) g .2)
+
+-- states as they come to be have rising numbers
+pub numbered-from : (st : s.State) → Good st → Numbered st
+numbered-from st g = fine-from st g .tidy
 
 -- what a row holds is what its words stand for
 pub slot-is : {X : Type 0} (b : Bool) (x m : X) → cond b [] (x ∷ []) ≡ m ∷ [] → x ≡ m

@@ -2,6 +2,7 @@
 ghost use mathlib.Core.Path.{_≡_};
 ghost use Prim.Native.Nat.{ℕ, _+_, _*_, _<_, _≤_};
 ghost use lib.ListN.{length, getD};
+ghost use Rattle.model.specs.Promise.{Good};
 ghost use Rattle.model.specs.Settle.{settle as settled};
 ghost use Rattle.jobs.specs.Layout.{homeWords, liveWords};
 ghost use Rattle.jobs.specs.Tables.{stateOf};
@@ -17,6 +18,7 @@ pub fn settle(home: &mut [u64], live: &mut [u64], time: u64)
     requires flags { ⌜ liveWords ≤ length (now live) ⌝ }
     requires numbered { ⌜ Numbered (stateOf (now home) (now live) time) ⌝ }
     ensures state { λ _. ⌜ Became (settled (stateOf (now (home .entry)) (now (live .entry)) time)) (now (home .entry)) (now (live .entry)) (now (home .exit)) (now (live .exit)) time ⌝ }
+    ensures good { λ _. ⌜ (Good (stateOf (now (home .entry)) (now (live .entry)) time) → Good (stateOf (now (home .exit)) (now (live .exit)) time)) ⌝ }
     ensures numbered { λ _. ⌜ Numbered (stateOf (now (home .exit)) (now (live .exit)) time) ⌝ }
 {
     end_orphans(home);

@@ -1,5 +1,5 @@
 use borrow.Author.Needs.{needs}
-use Rattle.settling.proofs.Placements.{swept-numbered, stepped-numbered, passed, passed-numbered}
+use Rattle.settling.proofs.Placements.{swept-numbered, stepped-numbered, passed, good-stays, numbered-stays}
 use Rattle.settling.proofs.pass.settle.Needs as need
 
 pub step-jobs-requires : need.step-jobs-requires
@@ -21,7 +21,9 @@ returns c =
     let home = c .args .home .now in
     let live = c .args .live .now in
     let mid = c .end-orphans .last .home in
+    let done = passed home live mid (c .step-jobs .last .home) (c .step-jobs .last .live) (c .place-all .last .home) (c .place-all .last .live) (c .args .time) (c .pre .words) (c .pre .numbered) (c .end-orphans .ensures live) (c .step-jobs .ensures) (c .place-all .ensures) in
     record {
-      state = passed home live mid (c .step-jobs .last .home) (c .step-jobs .last .live) (c .place-all .last .home) (c .place-all .last .live) (c .args .time) (c .pre .words) (c .pre .numbered) (c .end-orphans .ensures live) (c .step-jobs .ensures) (c .place-all .ensures);
-      numbered = passed-numbered home live mid (c .step-jobs .last .home) (c .step-jobs .last .live) (c .place-all .last .home) (c .place-all .last .live) (c .args .time) (c .pre .words) (c .pre .numbered) (c .end-orphans .ensures live) (c .step-jobs .ensures) (c .place-all .ensures);
+      state = done;
+      good = good-stays home live (c .place-all .last .home) (c .place-all .last .live) (c .args .time) done;
+      numbered = numbered-stays home live (c .place-all .last .home) (c .place-all .last .live) (c .args .time) (c .pre .numbered) done;
     }
