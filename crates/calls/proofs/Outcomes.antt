@@ -23,6 +23,10 @@ use Rattle.calls.specs.Meaning.{callOf}
 pub acted-no : (c : m.Call) (home live : List ℕ) (time : ℕ) (e : Refusal) → m.acts c (stateOf home live time) ≡ m.no (numberOf e) (stateOf home live time) → Acted c home live time (TurnedAway e) home live time
 acted-no c home live time e h = record { state = sym (ap (λ (o : m.Out). o .state) h); answer = sym (ap (λ (o : m.Out). w.answerTo c (o .reply)) h); refused = λ t. (refl, refl, refl) }
 
+pub acted-kept : (c : m.Call) (home live home' live' : List ℕ) (time : ℕ) (e : Refusal) → home' ≡ home → live' ≡ live → m.acts c (stateOf home live time) ≡ m.no (numberOf e) (stateOf home live time) → Acted c home live time (TurnedAway e) home' live' time
+acted-kept c home live home' live' time e p q h =
+    subst (λ (x : List ℕ). Acted c home live time (TurnedAway e) x live' time) (sym p) (subst (λ (x : List ℕ). Acted c home live time (TurnedAway e) home x time) (sym q) (acted-no c home live time e h))
+
 -- it was done, and answered by yes
 pub acted-yes : (c : m.Call) (home live home' live' : List ℕ) (time time' : ℕ) (u : State) → m.acts c (stateOf home live time) ≡ record { reply = m.Yes; state = u } → stateOf home' live' time' ≡ u → Acted c home live time Yes home' live' time'
 acted-yes c home live home' live' time time' u h e = record { state = e ∙ sym (ap (λ (o : m.Out). o .state) h); answer = sym (ap (λ (o : m.Out). w.answerTo c (o .reply)) h); refused = λ t. absurd (true≢false (sym t)) }

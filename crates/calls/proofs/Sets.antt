@@ -23,11 +23,11 @@ use Rattle.calls.proofs.Changes.{change-found}
 
 -- a list of jobs with which a pass begins
 pub begins : (f : s.State → Out) (js : List s.Job) (home home' : List ℕ) → JobsNow js home home' → ((live : List ℕ) (time : ℕ) → f (stateOf home live time) ≡ yes' (withJobs js (stateOf home live time))) → Begins f home home'
-begins f js home home' n e = record { acts = λ live time. e live time ∙ ap yes' (sym (n .state live time)); long = n .long }
+begins f js home home' n e = record { acts = λ live time. e live time ∙ ap yes' (sym (n .state live time)); only = (js, n .state); long = n .long }
 
 -- what f does, g does
 pub done-as : (f g : s.State → Out) (home home' : List ℕ) (o : Option Refusal) → ((live : List ℕ) (time : ℕ) → g (stateOf home live time) ≡ f (stateOf home live time)) → DoneAs f home home' o → DoneAs g home home' o
-done-as f g home home' None e d = record { acts = λ live time. e live time ∙ d .acts live time; long = d .long }
+done-as f g home home' None e d = record { acts = λ live time. e live time ∙ d .acts live time; only = d .only; long = d .long }
 done-as f g home home' (Some k) e d = record { acts = λ live time. e live time ∙ d .acts live time; same = d .same }
 
 -- ONE MORE

@@ -8,6 +8,8 @@ use lib.Dec.{ltb}
 use lib.ListN.{length}
 use Rattle.std.specs.declared.result.Result.{Result}
 use Rattle.std.specs.declared.result.Result.the-variants.{Ok, Err}
+use Rattle.model.specs.State as s
+use Rattle.model.specs.State.{withMachines}
 use Rattle.model.specs.Calls.{acts, no, yes'}
 use Rattle.jobs.specs.Tables.{stateOf}
 use Rattle.calls.specs.declared.answer.Refusal.{Refusal}
@@ -21,5 +23,7 @@ tooMuch a = ltb 1000000000 (a .cpu) || ltb 1000000000 (a .mem) || ltb 16 (length
 
 -- the machine is there, and the pass begins; or nothing has changed
 abbrev pub Put : Added → List ℕ → List ℕ → List ℕ → List ℕ → Result (Unit {0}) Refusal → Type 0
-Put a home live home' live' (Ok u) = (time : ℕ) → acts (callOf (Add a)) (stateOf home live time) ≡ yes' (stateOf home' live' time)
+Put a home live home' live' (Ok u) =
+    ((time : ℕ) → acts (callOf (Add a)) (stateOf home live time) ≡ yes' (stateOf home' live' time)) ×
+    ((ms : List s.Machine) × ((time : ℕ) → stateOf home' live' time ≡ withMachines ms (stateOf home live time)))
 Put a home live home' live' (Err e) = ((time : ℕ) → acts (callOf (Add a)) (stateOf home live time) ≡ no (numberOf e) (stateOf home live time)) × (home' ≡ home) × (live' ≡ live)

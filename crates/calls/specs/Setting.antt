@@ -7,6 +7,7 @@ use lib.ListN.{length}
 use Rattle.std.specs.declared.option.Option.{Option}
 use Rattle.std.specs.declared.option.Option.the-variants.{Some, None}
 use Rattle.model.specs.State as s
+use Rattle.model.specs.State.{withJobs}
 use Rattle.model.specs.Calls.{Call, Out, SetJob, acts, no, setsJob, yes'}
 use Rattle.jobs.specs.Tables.{stateOf}
 use Rattle.calls.specs.declared.answer.Refusal.{Refusal}
@@ -17,6 +18,7 @@ use Rattle.calls.specs.Meaning.{likeOf}
 -- the state in home' is the one in which the pass begins that ends what f does
 pub record Begins (f : s.State → Out) (home home' : List ℕ) : Type 0 where
   pub acts : (live : List ℕ) (time : ℕ) → f (stateOf home live time) ≡ yes' (stateOf home' live time)
+  pub only : (js : List s.Job) × ((live : List ℕ) (time : ℕ) → stateOf home' live time ≡ withJobs js (stateOf home live time))
   pub long : length home' ≡ length home
 
 -- what f refuses is refused by its number, and no word has changed

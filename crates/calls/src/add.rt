@@ -64,3 +64,20 @@ fn put(home: &mut [u64], live: &mut [u64], added: Added) -> Result<(), Refusal>
     }
     Ok(())
 }
+
+// A machine comes, and a pass follows.
+pub fn add<'a>(home: &mut [u64], live: &mut [u64], time: u64, added: Added) -> Answer<'a>
+    requires words { ⌜ homeWords ≤ length (now home) ⌝ }
+    requires flags { ⌜ liveWords ≤ length (now live) ⌝ }
+    requires fine { ⌜ Fine (stateOf (now home) (now live) time) ⌝ }
+    ensures acted { λ r. ⌜ Acted (callOf (Add (added .entry))) (now (home .entry)) (now (live .entry)) time r (now (home .exit)) (now (live .exit)) time ⌝ }
+    ensures long { λ _. ⌜ (length (now (home .exit)) ≡ length (now (home .entry))) × (length (now (live .exit)) ≡ length (now (live .entry))) ⌝ }
+{
+    match put(home, live, added) {
+        Err(why) => Answer::TurnedAway(why),
+        Ok(_) => {
+            settle(home, live, time);
+            Answer::Yes
+        }
+    }
+}

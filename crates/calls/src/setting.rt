@@ -8,11 +8,14 @@ ghost use Rattle.model.specs.Lists.{find};
 ghost use Rattle.model.specs.State as s;
 ghost use Rattle.model.specs.State.{isJob};
 ghost use Rattle.model.specs.Calls.{acts};
-ghost use Rattle.jobs.specs.Layout.{homeWords};
+ghost use Rattle.model.proofs.Settles.{Fine};
+ghost use Rattle.jobs.specs.Layout.{homeWords, liveWords};
 ghost use Rattle.jobs.specs.Rows.{span};
-ghost use Rattle.jobs.specs.Tables.{jobAt, jobRows};
+ghost use Rattle.jobs.specs.Tables.{jobAt, jobRows, stateOf};
 ghost use Rattle.jobs.specs.Values.{jobOf};
+ghost use Rattle.calls.specs.Acted.{Acted};
 ghost use Rattle.calls.specs.Setting.{DoneAs, setCall, setsAs};
+use crate::answer::Answer;
 use crate::answer::Refusal;
 use crate::call::Wanted;
 use crate::versions::next_version;
@@ -24,6 +27,7 @@ use jobs::job_rows::put_job;
 use jobs::layout::MAX_TASKS;
 use jobs::rows::job_row;
 use jobs::sums::sum_of_mosts;
+use settling::pass::settle;
 
 // A job of another name than all others.
 fn set_new(home: &mut [u64], job: Job) -> Option<Refusal>
@@ -54,7 +58,7 @@ fn reset_job(home: &mut [u64], i: usize, job: Job) -> Option<Refusal>
 }
 
 // Sets a job: one more, or one that is there.
-pub fn set_job(home: &mut [u64], wanted: Wanted) -> Option<Refusal>
+fn set_job(home: &mut [u64], wanted: Wanted) -> Option<Refusal>
     requires { ⌜ homeWords ≤ length (now home) ⌝ }
     ensures { λ r. ⌜ DoneAs (acts (setCall (wanted .entry))) (now (home .entry)) (now (home .exit)) r ⌝ }
 {
@@ -67,5 +71,22 @@ pub fn set_job(home: &mut [u64], wanted: Wanted) -> Option<Refusal>
     match find_job(home, &job.name) {
         None => set_new(home, job),
         Some(i) => reset_job(home, i, job),
+    }
+}
+
+// A job is set, and a pass follows.
+pub fn set<'a>(home: &mut [u64], live: &mut [u64], time: u64, wanted: Wanted) -> Answer<'a>
+    requires words { ⌜ homeWords ≤ length (now home) ⌝ }
+    requires flags { ⌜ liveWords ≤ length (now live) ⌝ }
+    requires fine { ⌜ Fine (stateOf (now home) (now live) time) ⌝ }
+    ensures acted { λ r. ⌜ Acted (setCall (wanted .entry)) (now (home .entry)) (now (live .entry)) time r (now (home .exit)) (now (live .exit)) time ⌝ }
+    ensures long { λ _. ⌜ (length (now (home .exit)) ≡ length (now (home .entry))) × (length (now (live .exit)) ≡ length (now (live .entry))) ⌝ }
+{
+    match set_job(home, wanted) {
+        Some(why) => Answer::TurnedAway(why),
+        None => {
+            settle(home, live, time);
+            Answer::Yes
+        }
     }
 }

@@ -69,4 +69,4 @@ returns c =
     let now = c .add-machine .ensures .added (c .if-not-add-machine .left) in
     let one : (time : ℕ) → withMachines (machinesOf home live ++ (newMachine (a .machine .0) (a .cpu) (a .mem) (tagsOf (a .tags .now)) ∷ [])) (stateOf home live time) ≡ withMachines (machinesOf home live ++ (newMachine (m .num .0) (m .cpu) (m .mem) (take (m .count) (m .tags)) ∷ [])) (stateOf home live time) =
     λ time i. withMachines (machinesOf home live ++ (newMachine (sym (e .num) i) (sym (e .cpu) i) (sym (e .mem) i) (sym (e .tags) i) ∷ [])) (stateOf home live time) in
-    record { put = λ time. adds (a .machine .0) (a .cpu) (a .mem) (tagsOf (a .tags .now)) (stateOf home live time) (f ∙ ap not (sym (c .if-is-some .ensures tt))) t w small (sym (c .add-machine .ensures .answer) ∙ c .if-not-add-machine .left) ∙ ap yes' (one time ∙ sym (now .state time)); long = (now .long, now .longLive) }
+    record { put = (λ time. adds (a .machine .0) (a .cpu) (a .mem) (tagsOf (a .tags .now)) (stateOf home live time) (f ∙ ap not (sym (c .if-is-some .ensures tt))) t w small (sym (c .add-machine .ensures .answer) ∙ c .if-not-add-machine .left) ∙ ap yes' (one time ∙ sym (now .state time)), (machinesOf home live ++ (newMachine (m .num .0) (m .cpu) (m .mem) (take (m .count) (m .tags)) ∷ []), now .state)); long = (now .long, now .longLive) }
