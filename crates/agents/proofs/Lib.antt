@@ -7,3 +7,4 @@ pub mod Texts
 pub mod Fields
 pub mod Lives
 pub mod Answered
+pub mod Written
