@@ -8,3 +8,4 @@ pub mod Fields
 pub mod Lives
 pub mod Answered
 pub mod Written
+pub mod Reaching
