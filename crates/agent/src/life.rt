@@ -35,13 +35,28 @@ pub impl From<AllocError> for Trouble as FromAlloc {
 pub impl fmt::Display for Trouble as TroubleDisplay {
     fn fmt<W: fmt::Write>(&self, f: &mut fmt::Formatter<W>) -> fmt::Result {
         match self {
-            Trouble::Usage => write!(f, "say `agent MACHINE` or `agent MACHINE DIR`, with the machine's number, 0 to 65535, and the directory of the file `life`"),
+            Trouble::Usage => write!(
+                f,
+                "say `agent MACHINE` or `agent MACHINE DIR`, with the machine's number, 0 to 65535, and the directory of the file `life`"
+            ),
             Trouble::Memory => write!(f, "no memory to begin with"),
             Trouble::Arguments(e) => write!(f, "the arguments cannot be read: {e}"),
-            Trouble::Open(e) => write!(f, "`life` cannot be read: {e}; see that it is a file that may be read"),
-            Trouble::Keep(e) => write!(f, "the next life cannot be kept: {e}; see that the directory of `life` is there, may be written, and has room"),
-            Trouble::Damaged => write!(f, "`life` is damaged, so it is not known which life comes next; put the right file back, or have the herd forget this machine, remove `life`, and add the machine under another number"),
-            Trouble::Last => write!(f, "`life` says that the last life, 4611686018427387904, was used; give this machine another number and a directory of its own"),
+            Trouble::Open(e) => write!(
+                f,
+                "`life` cannot be read: {e}; see that it is a file that may be read"
+            ),
+            Trouble::Keep(e) => write!(
+                f,
+                "the next life cannot be kept: {e}; see that the directory of `life` is there, may be written, and has room"
+            ),
+            Trouble::Damaged => write!(
+                f,
+                "`life` is damaged, so it is not known which life comes next; put the right file back, or have the herd forget this machine, remove `life`, and add the machine under another number"
+            ),
+            Trouble::Last => write!(
+                f,
+                "`life` says that the last life, 4611686018427387904, was used; give this machine another number and a directory of its own"
+            ),
             Trouble::Lines(e) => write!(f, "lines cannot be read or printed any more: {e}"),
         }
     }

@@ -20,7 +20,11 @@ pub struct Line {
 
 impl Line {
     pub fn new(heap: Global) -> Self {
-        Line { text: Vec::new(heap), fault: None, begun: false }
+        Line {
+            text: Vec::new(heap),
+            fault: None,
+            begun: false,
+        }
     }
 
     // One character more.

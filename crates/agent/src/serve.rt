@@ -1,4 +1,6 @@
 // Lines in, lines out. Whatever can't be done is said on standard error, and the agent goes on.
+use crate::line::Fault;
+use crate::line::Line;
 use agents::agent::Agent;
 use agents::agent::Passed;
 use agents::agent::Unsent;
@@ -8,8 +10,6 @@ use agents::text::Unhexed;
 use agents::text::bytes_of;
 use agents::text::meaning;
 use agents::text::push_hex;
-use crate::line::Fault;
-use crate::line::Line;
 use jobs::ids::Life;
 use jobs::ids::TaskId;
 use std::alloc::AllocError;
@@ -38,9 +38,15 @@ fn report(rt: &LibcRuntime, agent: &mut Agent) -> io::Result<()> {
     match agent.report(rt.alloc()) {
         Ok(bytes) => match send_text(rt.alloc(), bytes.as_slice()) {
             Ok(text) => rt.stdout().write_all(text.as_slice())?,
-            Err(_) => complain(rt, "a report is not sent: no memory for its text; ask again"),
+            Err(_) => complain(
+                rt,
+                "a report is not sent: no memory for its text; ask again",
+            ),
         },
-        Err(Unsent::Last) => complain(rt, "no report is sent: number 4611686018427387904 was the last of this life; start the agent anew"),
+        Err(Unsent::Last) => complain(
+            rt,
+            "no report is sent: number 4611686018427387904 was the last of this life; start the agent anew",
+        ),
         Err(Unsent::NoMemory) => complain(rt, "no report is sent: no memory for it; ask again"),
     }
     Ok(())
@@ -73,10 +79,19 @@ fn pass(rt: &LibcRuntime, why: Passed) {
     match why {
         Passed::NoAnswer => complain(rt, "an answer is passed over: it is no answer to a report"),
         Passed::Refused(number) => {
-            let _ = eprintln!(rt, "agent: an answer is passed over: the herd turned a call away by {number}");
+            let _ = eprintln!(
+                rt,
+                "agent: an answer is passed over: the herd turned a call away by {number}"
+            );
         }
-        Passed::NotLast => complain(rt, "an answer is passed over: it doesn't answer the last report of this life"),
-        Passed::NoMemory => complain(rt, "an answer is passed over: no memory to obey it; report again"),
+        Passed::NotLast => complain(
+            rt,
+            "an answer is passed over: it doesn't answer the last report of this life",
+        ),
+        Passed::NoMemory => complain(
+            rt,
+            "an answer is passed over: no memory to obey it; report again",
+        ),
     }
 }
 
@@ -86,8 +101,14 @@ fn answer(rt: &LibcRuntime, agent: &mut Agent, digits: &[u8]) -> io::Result<()> 
             Ok(deeds) => carry_all(rt, deeds.as_slice())?,
             Err(why) => pass(rt, why),
         },
-        Unhexed::Garbled => complain(rt, "an answer is passed over: an even number of hexadecimal digits should stand behind the word"),
-        Unhexed::NoMemory => complain(rt, "an answer is passed over: no memory to read it; report again"),
+        Unhexed::Garbled => complain(
+            rt,
+            "an answer is passed over: an even number of hexadecimal digits should stand behind the word",
+        ),
+        Unhexed::NoMemory => complain(
+            rt,
+            "an answer is passed over: no memory to read it; report again",
+        ),
     }
     Ok(())
 }
@@ -95,7 +116,10 @@ fn answer(rt: &LibcRuntime, agent: &mut Agent, digits: &[u8]) -> io::Result<()> 
 fn ready(rt: &LibcRuntime, agent: &mut Agent, task: TaskId) {
     if !agent.mark(task, true) {
         let id = task.0;
-        let _ = eprintln!(rt, "agent: `ready {id}` is passed over: {id} doesn't run here");
+        let _ = eprintln!(
+            rt,
+            "agent: `ready {id}` is passed over: {id} doesn't run here"
+        );
     }
 }
 
@@ -103,12 +127,18 @@ fn ready(rt: &LibcRuntime, agent: &mut Agent, task: TaskId) {
 fn dies(rt: &LibcRuntime, agent: &mut Agent, task: TaskId) -> io::Result<()> {
     if !agent.die(task) {
         let id = task.0;
-        let _ = eprintln!(rt, "agent: `dies {id}` is passed over: {id} doesn't run here");
+        let _ = eprintln!(
+            rt,
+            "agent: `dies {id}` is passed over: {id} doesn't run here"
+        );
         return Ok(());
     }
     match agent.start(rt.alloc()) {
         Ok(deeds) => carry_all(rt, deeds.as_slice())?,
-        Err(_) => complain(rt, "no memory to start again what died; it is started with the next answer"),
+        Err(_) => complain(
+            rt,
+            "no memory to start again what died; it is started with the next answer",
+        ),
     }
     Ok(())
 }
@@ -119,7 +149,10 @@ fn follow(rt: &LibcRuntime, agent: &mut Agent, text: &[u8]) -> io::Result<()> {
         Said::Answer(digits) => answer(rt, agent, digits)?,
         Said::Ready(task) => ready(rt, agent, task),
         Said::Dies(task) => dies(rt, agent, task)?,
-        Said::Nothing => complain(rt, "a line is passed over: say `report`, `answer HEX`, `ready T` or `dies T`"),
+        Said::Nothing => complain(
+            rt,
+            "a line is passed over: say `report`, `answer HEX`, `ready T` or `dies T`",
+        ),
     }
     Ok(())
 }
@@ -128,7 +161,10 @@ fn follow(rt: &LibcRuntime, agent: &mut Agent, text: &[u8]) -> io::Result<()> {
 fn finish(rt: &LibcRuntime, agent: &mut Agent, line: &mut Line) -> io::Result<()> {
     match line.text() {
         Ok(text) => follow(rt, agent, text)?,
-        Err(Fault::TooLong) => complain(rt, "a line is passed over: it is longer than any that says something"),
+        Err(Fault::TooLong) => complain(
+            rt,
+            "a line is passed over: it is longer than any that says something",
+        ),
         Err(Fault::NoMemory) => complain(rt, "a line is passed over: no memory to hold it"),
     }
     line.restart(rt.alloc());

@@ -64,7 +64,6 @@ module _ (w : World) (i : ℕ) where
 
 obeyed-reach : (w : World) (i : ℕ) (os : List Order) → Reach w → List·Memᴰ (Back i (w .agent i .life) (w .agent i .number) os) (w .sent) → Reach (withAgent i (starting (obeys os (w .agent i))) w)
 obeyed-reach w i os r m =
-
     let h = all-started (withAgent i (obeys os (w .agent i)) w) i (Reach.then r (Step.obeyed w i os m)) in
     subst Reach (ap (λ (x : Agent). withAgent i (starting x) (withAgent i (obeys os (w .agent i)) w)) (at-with w i (obeys os (w .agent i))) ∙ with-again w i (starting (obeys os (w .agent i))) (obeys os (w .agent i))) h
 

@@ -37,7 +37,7 @@ two-more ts i l =
     drop-more ts (2 * i) 0 h ∙ ap (λ (us : Text). getD ts (2 * i) 0 ∷ us) (drop-more ts (2 * i + 1) 0 l ∙ ap (λ (n : ℕ). getD ts (2 * i + 1) 0 ∷ drop n ts) (sym k))
 
 pub pair-more : (ts : Text) (i : ℕ) (b : Bool) (ys xs : Bytes) (x : ℕ) → 2 * i + 1 < length ts → hexOn xs first (drop (2 * i) ts) ≡ hexOn [] first ts →
-  ((bs us : Bytes) → hexOn bs first (getD ts (2 * i) 0 ∷ getD ts (2 * i + 1) 0 ∷ us) ≡ hexOn (bs ++ (x ∷ [])) first us) → ys ≡ cond b (xs ++ x ∷ []) xs → b ≡ true → hexOn ys first (drop (2 * (i + 1)) ts) ≡ hexOn [] first ts
+    ((bs us : Bytes) → hexOn bs first (getD ts (2 * i) 0 ∷ getD ts (2 * i + 1) 0 ∷ us) ≡ hexOn (bs ++ (x ∷ [])) first us) → ys ≡ cond b (xs ++ x ∷ []) xs → b ≡ true → hexOn ys first (drop (2 * (i + 1)) ts) ≡ hexOn [] first ts
 pair-more ts i b ys xs x l inv f e t =
     let z : ys ≡ xs ++ x ∷ [] = e ∙ ap (λ (w : Bool). cond w (xs ++ x ∷ []) xs) t in
     ap (λ (bs : Bytes). hexOn bs first (drop (2 * (i + 1)) ts)) z ∙ sym (f xs (drop (2 * (i + 1)) ts)) ∙ sym (ap (hexOn xs first) (two-more ts i l)) ∙ inv
