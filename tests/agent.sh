@@ -115,7 +115,10 @@ if command -v strace >/dev/null && strace -o /dev/null true 2>/dev/null; then
     mkdir cut && : >lives
     for call in openat write fsync rename close; do
         for n in 1 2 3 4; do
-            strace -qq -o /dev/null -e "inject=$call:signal=KILL:when=$n" "$agent" 7 cut </dev/null >>lives 2>/dev/null
+            (
+                strace -qq -o /dev/null -e "inject=$call:signal=KILL:when=$n" "$agent" 7 cut </dev/null >>lives
+                true
+            ) 2>/dev/null
             "$agent" 7 cut </dev/null >>lives
         done
     done

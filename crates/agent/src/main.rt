@@ -2,6 +2,8 @@
 mod life;
 mod line;
 mod serve;
+#[cfg(test)]
+mod tests;
 
 use agents::agent::Agent;
 use jobs::ids::MachineId;

@@ -7,3 +7,5 @@ pub mod Texts
 pub mod Fields
 pub mod Lives
 pub mod Answered
+pub mod Written
+pub mod Reaching

@@ -49,11 +49,8 @@ same-twice bs v = pick (eqb (length bs) 16) (eqb (field 8 0 bs) (field 8 8 bs)) 
 pub mixed-is-either : MixedIsEither
 mixed-is-either m n k v f g l e = pick (leb k 8) refl
   where
-    mix : Bytes
-    mix = take k (lifeBytes m) ++ drop k (lifeBytes n)
-
     both : (field 8 0 (take k (lifeBytes m) ++ drop k (lifeBytes n)) ≡ v) × (field 8 8 (take k (lifeBytes m) ++ drop k (lifeBytes n)) ≡ v)
-    both = same-twice _ v e
+    both = same-twice (take k (lifeBytes m) ++ drop k (lifeBytes n)) v e
 
     front : length (take k (lifeBytes m)) ≡ k
     front = let a = length-take k (lifeBytes m) in let b = long m in omega arith

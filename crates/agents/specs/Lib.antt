@@ -5,3 +5,4 @@ pub mod Answering
 pub mod Reporting
 pub mod Steps
 pub mod Texts
+pub mod Worlds

@@ -1,6 +1,7 @@
 // What is shown of agents, each on the contract of a small function.
-ghost use Rattle.model.specs.Answers.{FrameBack, NoOtherRuns, NoReportRuns};
+ghost use Rattle.model.specs.Answers.{FrameBack, NoOtherRuns, NoReportRuns, RunsBack};
 ghost use Rattle.agents.specs.LifeFile.{LifeBack, MixedIsEither, TornIsNone};
+ghost use Rattle.agents.specs.Worlds.{AllMovesReach};
 
 // The life file is read as it was written.
 pub fn life_back() -> u8
@@ -33,6 +34,20 @@ pub fn no_other_runs() -> u8
 // What was framed is unframed, and bears its tag.
 pub fn frame_back() -> u8
     ensures { λ _. ⌜ FrameBack ⌝ }
+{
+    0
+}
+
+// An answer to a report is read as it was written.
+pub fn runs_back() -> u8
+    ensures { λ _. ⌜ RunsBack ⌝ }
+{
+    0
+}
+
+// Each move leads from a world that is reached to one that is reached.
+pub fn all_moves_reach() -> u8
+    ensures { λ _. ⌜ AllMovesReach ⌝ }
 {
     0
 }
