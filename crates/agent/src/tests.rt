@@ -11,7 +11,57 @@ use std::test::*;
 
 // The answer to report 1 of machine 7 in life 1: run task 9, of image 3.
 const RUN: [u8; 51] = [
-    0, 0, 0, 47, 0, 0, 0, 1, 2, 0, 7, 0, 0, 0, 0, 0, 0, 0, 1, 0, 0, 0, 0, 0, 0, 0, 1, 0, 1, 0, 0, 0, 0, 0, 0, 0, 9, 0, 0, 0, 3, 0, 0, 0, 4, 0, 0, 0, 5, 0, 0,
+    0,
+    0,
+    0,
+    47,
+    0,
+    0,
+    0,
+    1,
+    2,
+    0,
+    7,
+    0,
+    0,
+    0,
+    0,
+    0,
+    0,
+    0,
+    1,
+    0,
+    0,
+    0,
+    0,
+    0,
+    0,
+    0,
+    1,
+    0,
+    1,
+    0,
+    0,
+    0,
+    0,
+    0,
+    0,
+    0,
+    9,
+    0,
+    0,
+    0,
+    3,
+    0,
+    0,
+    0,
+    4,
+    0,
+    0,
+    0,
+    5,
+    0,
+    0,
 ];
 
 fn started(deed: Deed) -> u64 {
@@ -44,7 +94,7 @@ fn obeys_its_last_report(rt: LibcRuntime) -> Result<(), Fail> {
     check(agent.hear(rt.alloc(), &RUN).is_err()).note("it answers an earlier report")
 }
 
-// With any byte of it changed, the answer starts nothing else, or is passed over.
+// With any byte of its frame or its head changed, but for the tag, the answer is passed over.
 #[test]
 fn hostile_bytes(rt: LibcRuntime) -> Result<(), Fail> {
     for i in 0..29 {

@@ -114,7 +114,7 @@ started-in j (o ∷ os) xs e = pick (some (isSeen (o .id)) (started os xs)) (eqb
     more (inr h) f = inr (rw f h)
 
     pick : (c b : Bool) → eqb j (o .id) ≡ b → (some (isSeen j) (started os xs) ≡ true → (some (isSeen j) xs ≡ true) ⊎ (some (isOrder j) os ≡ true)) →
-      some (isSeen j) (cond c (started os xs) (record { id = o .id; ready = false } ∷ started os xs)) ≡ true → (some (isSeen j) xs ≡ true) ⊎ ((eqb j (o .id) || some (isOrder j) os) ≡ true)
+        some (isSeen j) (cond c (started os xs) (record { id = o .id; ready = false } ∷ started os xs)) ≡ true → (some (isSeen j) xs ≡ true) ⊎ ((eqb j (o .id) || some (isOrder j) os) ≡ true)
     pick c true f h q = inr (rw f)
     pick true false f h q = more (h q) f
     pick false false f h q = more (h (sym (ap (λ (t : Bool). t || some (isSeen j) (started os xs)) f) ∙ q)) f
