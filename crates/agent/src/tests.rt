@@ -94,7 +94,7 @@ fn obeys_its_last_report(rt: LibcRuntime) -> Result<(), Fail> {
     check(agent.hear(rt.alloc(), &RUN).is_err()).note("it answers an earlier report")
 }
 
-// With any byte of it changed, the answer starts nothing else, or is passed over.
+// With any byte of its frame or its head changed, but for the tag, the answer is passed over.
 #[test]
 fn hostile_bytes(rt: LibcRuntime) -> Result<(), Fail> {
     for i in 0..29 {

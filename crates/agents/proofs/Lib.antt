@@ -9,3 +9,4 @@ pub mod Lives
 pub mod Answered
 pub mod Written
 pub mod Reaching
+pub mod Carrying

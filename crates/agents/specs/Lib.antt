@@ -6,3 +6,4 @@ pub mod Reporting
 pub mod Steps
 pub mod Texts
 pub mod Worlds
+pub mod Carried

@@ -1,5 +1,6 @@
 // What is shown of agents, each on the contract of a small function.
 ghost use Rattle.model.specs.Answers.{FrameBack, NoOtherRuns, NoReportRuns, RunsBack};
+ghost use Rattle.agents.specs.Carried.{CarriedOut};
 ghost use Rattle.agents.specs.LifeFile.{LifeBack, MixedIsEither, TornIsNone};
 ghost use Rattle.agents.specs.Worlds.{AllMovesReach};
 
@@ -48,6 +49,13 @@ pub fn runs_back() -> u8
 // Each move leads from a world that is reached to one that is reached.
 pub fn all_moves_reach() -> u8
     ensures { λ _. ⌜ AllMovesReach ⌝ }
+{
+    0
+}
+
+// When what is printed to be stopped and started is carried out, there runs what the agent takes to run.
+pub fn carried_out() -> u8
+    ensures { λ _. ⌜ CarriedOut ⌝ }
 {
     0
 }
