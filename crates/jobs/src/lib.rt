@@ -1,6 +1,7 @@
 // What the herd has: jobs, machines and tasks, as rows of 64-bit words in two lent slices.
 // `home` is all that outlives the dark, `live` what does not. Any words stand for some state,
 // by the definitions of specs/Tables; each function says what its change makes of that state.
+#![tactic(auto)]
 pub mod closing;
 pub mod dark;
 pub mod encoding;

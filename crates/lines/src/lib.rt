@@ -1,4 +1,5 @@
 // Lines: calls and answers as bytes, and the function that answers a line.
+#![tactic(auto)]
 pub mod answer;
 pub mod hex;
 pub mod line;

@@ -7,6 +7,7 @@
 // world: of all together, herd, agents and lines, at every moment of every run
 // run: of code over kept words, wherever it is cut
 // cases: worked cases, by computation
+#![tactic(auto)]
 pub mod cases;
 pub mod run;
 pub mod state;
