@@ -5,6 +5,7 @@
 // take turns, on any of them. Each function says which doing it carries out, to its end or cut in it.
 // A service by pure functions that keeps its home words so is right in every run: `counter` is the smallest.
 #![tactic(auto)]
+
 mod bytes;
 pub mod counter;
 pub mod filed;

@@ -2,6 +2,7 @@
 // `home` is all that outlives the dark, `live` what does not. Any words stand for some state,
 // by the definitions of specs/Tables; each function says what its change makes of that state.
 #![tactic(auto)]
+
 pub mod closing;
 pub mod dark;
 pub mod encoding;

@@ -4,16 +4,16 @@ use Rattle.device.proofs.Steps.{copies_same, copies_other, copies_end}
 use Rattle.device.proofs.halves.copy.Goals as goal
 use Rattle.device.proofs.halves.copy.Goals.{then-load-home+in-ok-store, else-load-home}
 
-pub returns-in-err-store : goal.returns-in-err-store
-returns-in-err-store g c =
-    let p = err_from_is_err_and c.from-residual.result c.from-residual.ensures.1 in
-    rw p.1 (leads_cut (g.K.Kept.word c.store.new.self) c.loop-i.invariant c.in-err-store.ensures)
+pub returns-in_err-store : goal.returns-in_err-store
+returns-in_err-store g c =
+    let p = err_from_is_err_and c.from_residual.result c.from_residual.ensures.1 in
+    rw p.1 (leads_cut (g.K.Kept.word c.store.new.self) c.loop-i.invariant c.in_err-store.ensures)
 
 pub loop-i-preserved : goal.loop-i-preserved
 loop-i-preserved g c =
     elim c.if-load-home.branch [
       | then-load-home+in-ok-store w ↦
-          simp w.words-is (leads_store _ _ _ _ (g.K.Kept.word w.store.new.self) (copies_other c.args.from c.loop-i.i c.args.home.now (g.K.Kept.word c.loop-i.words) c.load.result c.loop-i.invariant c.loop-i-test.true c.load.ensures w.if-load-home.true) w.in-ok-store.ensures)
+          simp w.words-is (leads_store _ _ _ _ (g.K.Kept.word w.store.new.self) (copies_other c.args.from c.loop-i.i c.args.home.now (g.K.Kept.word c.loop-i.words) c.load.result c.loop-i.invariant c.loop-i-test.true c.load.ensures w.if-load-home.true) w.in_ok-store.ensures)
       | else-load-home w ↦
           simp w.words-is (copies_same c.args.from c.loop-i.i c.args.home.now (g.K.Kept.word c.loop-i.words) c.load.result c.loop-i.invariant c.loop-i-test.true c.load.ensures w.if-load-home.false)
     ]

@@ -7,4 +7,4 @@ use Rattle.jobs.proofs.encoding.encode_job.Goals as goal
 pub returns : goal.returns
 returns c =
     let s : Sized c.args.job = search rules in
-    record { back = ap job_from_lem c.job-words.ensures ∙ job_back c.args.job s; there = let e = ap (λ (l : List ℕ). at l 0) c.job-words.ensures in let h = version_there c.args.job.version.0 in omega (arith, e, h) }
+    record { back = ap job_from_lem c.job_words.ensures ∙ job_back c.args.job s; there = let e = ap (λ (l : List ℕ). at l 0) c.job_words.ensures in let h = version_there c.args.job.version.0 in omega (arith, e, h) }

@@ -13,19 +13,19 @@ loop-i-init c = λ live. find_start (is_machine c.args.num.0) (machine_at c.args
 
 pub returns-then-num-row : goal.returns-then-num-row
 returns-then-num-row c = λ live.
-    let r = c.machine-row-row.result.now in
+    let r = c.machine_row-row.result.now in
     let h = at live c.loop-i.i in
     find_this (is_machine c.args.num.0) (machine_at c.args.home.now live) c.loop-i.i (c.loop-i.invariant live) (machine_rows_lem c.args.home.now) (machine_from r h) (omega arith)
-    (ap (λ (x : List ℕ). machine_slot x h) (sym c.machine-row-row.ensures.is) ∙ slot_full (at r 0) (machine_from r h) c.if-row-ne0.true) (eq-eqb c.args.num.0 (at r 1 % 65536) c.if-num-row.true)
+    (ap (λ (x : List ℕ). machine_slot x h) (sym c.machine_row-row.ensures.is) ∙ slot_full (at r 0) (machine_from r h) c.if-row-ne0.true) (eq-eqb c.args.num.0 (at r 1 % 65536) c.if-num-row.true)
 
 pub loop-i-preserved : goal.loop-i-preserved
 loop-i-preserved c = λ live.
-    let r = c.machine-row-row.result.now in
+    let r = c.machine_row-row.result.now in
     let h = at live c.loop-i.i in
     elim c.else-row-ne0.branch [
       | else-row-ne0-via-then-row-ne0+else-num-row w ↦ find_other (is_machine c.args.num.0) (machine_at c.args.home.now live) c.loop-i.i (c.loop-i.invariant live) (machine_from r h)
-          (ap (λ (x : List ℕ). machine_slot x h) (sym c.machine-row-row.ensures.is) ∙ slot_full (at r 0) (machine_from r h) w.if-row-ne0.true) (ne_eqb c.args.num.0 (at r 1 % 65536) w.if-num-row.false)
-      | else-row-ne0-via-else-row-ne0 w ↦ find_hole (is_machine c.args.num.0) (machine_at c.args.home.now live) c.loop-i.i (c.loop-i.invariant live) (ap (λ (x : List ℕ). machine_slot x h) (sym c.machine-row-row.ensures.is) ∙ slot_hole (at r 0) (machine_from r h) w.if-row-ne0.false)
+          (ap (λ (x : List ℕ). machine_slot x h) (sym c.machine_row-row.ensures.is) ∙ slot_full (at r 0) (machine_from r h) w.if-row-ne0.true) (ne_eqb c.args.num.0 (at r 1 % 65536) w.if-num-row.false)
+      | else-row-ne0-via-else-row-ne0 w ↦ find_hole (is_machine c.args.num.0) (machine_at c.args.home.now live) c.loop-i.i (c.loop-i.invariant live) (ap (λ (x : List ℕ). machine_slot x h) (sym c.machine_row-row.ensures.is) ∙ slot_hole (at r 0) (machine_from r h) w.if-row-ne0.false)
     ]
 
 pub returns : goal.returns

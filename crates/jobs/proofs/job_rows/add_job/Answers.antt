@@ -9,5 +9,5 @@ pub returns : goal.returns
 returns c = record {
   answer = sym (lt-ltb (length (jobs_of c.args.home.now)) 256 (omega arith));
   refused = λ e. absurd (true≢false e);
-  added = λ e. jobs_then c.args.home.now c.make-job-room.new.home c.push-job.new.home (job_of c.args.job) c.make-job-room.ensures.now c.push-job.ensures;
+  added = λ e. jobs_then c.args.home.now c.make_job_room.new.home c.push_job.new.home (job_of c.args.job) c.make_job_room.ensures.now c.push_job.ensures;
 }

@@ -5,5 +5,5 @@ use Rattle.jobs.proofs.job_rows.push_job.Goals as goal
 
 pub returns : goal.returns
 returns c =
-    let l : length c.encode-job-words.result ≡ 26 = search rules in
-    job_pushed c.args.home.now c.requires.words c.put-words.new.home c.encode-job-words.result c.job-rows-n.result (job_of c.args.job) c.job-rows-n.ensures.is (omega arith) l c.encode-job-words.ensures.back (λ e. omega (arith, e, c.encode-job-words.ensures.there)) c.put-words.ensures
+    let l : length c.encode_job-words.result ≡ 26 = search rules in
+    job_pushed c.args.home.now c.requires.words c.put_words.new.home c.encode_job-words.result c.job_rows-n.result (job_of c.args.job) c.job_rows-n.ensures.is (omega arith) l c.encode_job-words.ensures.back (λ e. omega (arith, e, c.encode_job-words.ensures.there)) c.put_words.ensures

@@ -6,7 +6,7 @@ use Rattle.jobs.proofs.machine_rows.add_machine.Goals as goal
 
 pub returns : goal.returns
 returns c = record {
-  answer = sym (lt-ltb (length (machines_of c.args.home.now c.args.live.now)) 256 (omega (arith, c.count-machines.ensures c.args.live.now)));
+  answer = sym (lt-ltb (length (machines_of c.args.home.now c.args.live.now)) 256 (omega (arith, c.count_machines.ensures c.args.live.now)));
   refused = λ e. absurd (true≢false e);
-  added = λ e. machines_then c.args.home.now c.args.live.now c.make-machine-room.new.home c.make-machine-room.new.live c.push-machine.new.home c.push-machine.new.live _ c.make-machine-room.ensures.now c.push-machine.ensures;
+  added = λ e. machines_then c.args.home.now c.args.live.now c.make_machine_room.new.home c.make_machine_room.new.live c.push_machine.new.home c.push_machine.new.live _ c.make_machine_room.ensures.now c.push_machine.ensures;
 }

@@ -5,7 +5,7 @@ use Rattle.jobs.proofs.Spans.{span_none}
 use Rattle.jobs.proofs.Finds.{slot_hole, slot_full}
 use Rattle.jobs.proofs.TableLaws.{count_more}
 use Rattle.jobs.proofs.machine_rows.count_machines.Goals as goal
-use Rattle.jobs.proofs.machine_rows.count_machines.Goals.{then-machine-row-ne0, else-machine-row-ne0}
+use Rattle.jobs.proofs.machine_rows.count_machines.Goals.{then-machine_row-ne0, else-machine_row-ne0}
 
 pub loop-i-init : goal.loop-i-init
 loop-i-init c = ((λ live. sym (ap length (span_none (machine_at c.args.home.now live) 0))), omega arith)
@@ -13,10 +13,10 @@ loop-i-init c = ((λ live. sym (ap length (span_none (machine_at c.args.home.now
 pub loop-i-preserved : goal.loop-i-preserved
 loop-i-preserved c =
     let i = c.loop-i.i in
-    let r = c.machine-row.result.now in
-    elim c.if-machine-row-ne0.branch [
-      | then-machine-row-ne0 w ↦ rw w.count-is ((λ live. count_more (machine_at c.args.home.now live) i c.loop-i.count (machine_from r (at live i) ∷ []) (ap (λ (x : List ℕ). machine_slot x (at live i)) (sym c.machine-row.ensures.is) ∙ slot_full (at r 0) (machine_from r (at live i)) w.if-machine-row-ne0.true) (c.loop-i.invariant.0 live)), omega arith)
-      | else-machine-row-ne0 w ↦ rw w.count-is ((λ live. let e : c.loop-i.count ≡ c.loop-i.count + 0 = omega arith in e ∙ count_more (machine_at c.args.home.now live) i c.loop-i.count [] (ap (λ (x : List ℕ). machine_slot x (at live i)) (sym c.machine-row.ensures.is) ∙ slot_hole (at r 0) (machine_from r (at live i)) w.if-machine-row-ne0.false) (c.loop-i.invariant.0 live)), omega arith)
+    let r = c.machine_row.result.now in
+    elim c.if-machine_row-ne0.branch [
+      | then-machine_row-ne0 w ↦ rw w.count-is ((λ live. count_more (machine_at c.args.home.now live) i c.loop-i.count (machine_from r (at live i) ∷ []) (ap (λ (x : List ℕ). machine_slot x (at live i)) (sym c.machine_row.ensures.is) ∙ slot_full (at r 0) (machine_from r (at live i)) w.if-machine_row-ne0.true) (c.loop-i.invariant.0 live)), omega arith)
+      | else-machine_row-ne0 w ↦ rw w.count-is ((λ live. let e : c.loop-i.count ≡ c.loop-i.count + 0 = omega arith in e ∙ count_more (machine_at c.args.home.now live) i c.loop-i.count [] (ap (λ (x : List ℕ). machine_slot x (at live i)) (sym c.machine_row.ensures.is) ∙ slot_hole (at r 0) (machine_from r (at live i)) w.if-machine_row-ne0.false) (c.loop-i.invariant.0 live)), omega arith)
     ]
 
 pub returns : goal.returns

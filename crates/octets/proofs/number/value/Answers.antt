@@ -5,13 +5,13 @@ use Rattle.model.specs.Wire.{value_of}
 use Rattle.octets.proofs.Numbers.{value_room, value_lt, bytes_under}
 use Rattle.octets.proofs.number.value.Goals as goal
 
-pub overflow-mul-n : goal.overflow-mul-n
-overflow-mul-n c = let r = value_room c.args.bytes.now c.loop-b.b-index c.loop-b-test.true c.requires (λ k. let h = c.type-inv.bytes k in omega arith) in omega (arith, r, c.loop-b.invariant)
+pub overflow_mul-n : goal.overflow_mul-n
+overflow_mul-n c = let r = value_room c.args.bytes.now c.loop-b.b-index c.loop-b-test.true c.requires (λ k. let h = c.type_inv.bytes k in omega arith) in omega (arith, r, c.loop-b.invariant)
 
-pub overflow-add-n : goal.overflow-add-n
-overflow-add-n c =
-    let r = value_room c.args.bytes.now c.loop-b.b-index c.loop-b-test.true c.requires (λ k. let h = c.type-inv.bytes k in omega arith) in
-    let b = c.type-inv.bytes c.loop-b.b-index in omega (arith, r, b, c.loop-b.invariant, c.from.ensures)
+pub overflow_add-n : goal.overflow_add-n
+overflow_add-n c =
+    let r = value_room c.args.bytes.now c.loop-b.b-index c.loop-b-test.true c.requires (λ k. let h = c.type_inv.bytes k in omega arith) in
+    let b = c.type_inv.bytes c.loop-b.b-index in omega (arith, r, b, c.loop-b.invariant, c.from.ensures)
 
 pub loop-b-preserved : goal.loop-b-preserved
 loop-b-preserved c =
@@ -20,4 +20,4 @@ loop-b-preserved c =
 pub returns : goal.returns
 returns c =
     let e = take_all c.loop-b.b-index c.args.bytes.now c.loop-b-test.false in let v = c.loop-b.invariant ∙ ap value_of e in
-    record { value = v; bound = let h = value_lt c.args.bytes.now (length c.args.bytes.now) (omega arith) (bytes_under c.args.bytes.now (λ k. let b = c.type-inv.bytes k in omega arith)) in omega (arith, h, v) }
+    record { value = v; bound = let h = value_lt c.args.bytes.now (length c.args.bytes.now) (omega arith) (bytes_under c.args.bytes.now (λ k. let b = c.type_inv.bytes k in omega arith)) in omega (arith, h, v) }
