@@ -32,8 +32,8 @@ struct Acted {
 impl Counter {
     // Wakes from the kept words.
     pub fn wake<K: Kept>(words: &K) -> Self
-        ensures follows { Ended code.wakes (word words.now) (mind_of result.home result.asked) (word words.now) }
-        ensures runs { Runs code (asleep (word words.now)) → Runs code (awake (mind_of result.home result.asked) (word words.now)) }
+        ensures follows { Ended code.wakes (K.word words.now) (mind_of result.home result.asked) (K.word words.now) }
+        ensures runs { Runs code (asleep (K.word words.now)) → Runs code (awake (mind_of result.home result.asked) (K.word words.now)) }
     {
         let mut home = [0, 0];
         wake(words, &mut home);
@@ -65,10 +65,10 @@ impl Counter {
 
     // Answers, and keeps what changed; or is cut in that.
     pub fn answer<K: Kept>(&mut self, words: &mut K, ask: Ask) -> Result<u64, Dark>
-        ensures follows { FollowsTo (code.does ask (mind_of self.old.home self.old.asked)) (word words.old) result (λ n. record { reply = n; mind = mind_of self.new.home self.new.asked }) (word words.new) }
-        ensures runs { GoesOn code ask (mind_of self.old.home self.old.asked) (word words.old) result (λ n. record { reply = n; mind = mind_of self.new.home self.new.asked }) (word words.new) }
-        ensures tells { DoesSo meant code Tells Awake ask (mind_of self.old.home self.old.asked) (word words.old) result (λ n. record { reply = n; mind = mind_of self.new.home self.new.asked }) (word words.new) }
-        ensures budget { CallBudget service ask (mind_of self.old.home self.old.asked) (word words.old) }
+        ensures follows { FollowsTo (code.does ask (mind_of self.old.home self.old.asked)) (K.word words.old) result (λ n. record { reply = n; mind = mind_of self.new.home self.new.asked }) (K.word words.new) }
+        ensures runs { GoesOn code ask (mind_of self.old.home self.old.asked) (K.word words.old) result (λ n. record { reply = n; mind = mind_of self.new.home self.new.asked }) (K.word words.new) }
+        ensures tells { DoesSo meant code Tells Awake ask (mind_of self.old.home self.old.asked) (K.word words.old) result (λ n. record { reply = n; mind = mind_of self.new.home self.new.asked }) (K.word words.new) }
+        ensures budget { CallBudget service ask (mind_of self.old.home self.old.asked) (K.word words.old) }
     {
         let acted = self.act(ask);
         finish(words, &self.home, acted.changed, acted.reply)

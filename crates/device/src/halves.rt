@@ -40,7 +40,7 @@ fn locate(mark: u64, size: usize) -> Places
 // How many words differ from those that stand there.
 fn differ<K: Kept>(words: &K, from: usize, home: &[u64]) -> usize
     requires { from + length home.now ≤ 262144 }
-    ensures { Ended (differs from 0 home.now) (word words.now) result (word words.now) }
+    ensures { Ended (differs from 0 home.now) (K.word words.now) result (K.word words.now) }
 {
     let mut n = 0;
     for i in 0..home.len() {
@@ -54,7 +54,7 @@ fn differ<K: Kept>(words: &K, from: usize, home: &[u64]) -> usize
 // Stores each word that differs.
 fn copy<K: Kept>(words: &mut K, from: usize, home: &[u64]) -> Result<(), Dark>
     requires { from + length home.now ≤ 262144 }
-    ensures { Follows (copies from home.now) (word words.old) result (tt {0}) (word words.new) }
+    ensures { Follows (copies from home.now) (K.word words.old) result (tt {0}) (K.word words.new) }
 {
     for i in 0..home.len() {
         if words.load(from + i) != home[i] {
@@ -67,7 +67,7 @@ fn copy<K: Kept>(words: &mut K, from: usize, home: &[u64]) -> Result<(), Dark>
 // Reads as many words from there as there is room for.
 fn read<K: Kept>(words: &K, from: usize, home: &mut [u64])
     requires { from + length home.old ≤ 262144 }
-    ensures { (j : ℕ) → j < length home.old → slice_index home.new j ≡ word words.now (from + j) }
+    ensures { (j : ℕ) → j < length home.old → slice_index home.new j ≡ (K.word words.now) (from + j) }
 {
     for i in 0..home.len() {
         home[i] = words.load(from + i);
@@ -78,7 +78,7 @@ impl Places {
     // Stores in place, in the half that holds.
     fn change_held<K: Kept>(self, words: &mut K, home: &[u64]) -> Result<(), Dark>
         requires { (self.held + length home.now ≤ 262144) × (self.spare + length home.now ≤ 262144) }
-        ensures { Follows (copies self.held home.now) (word words.old) result (tt {0}) (word words.new) }
+        ensures { Follows (copies self.held home.now) (K.word words.old) result (tt {0}) (K.word words.new) }
     {
         copy(words, self.held, home)
     }
@@ -86,14 +86,14 @@ impl Places {
     // Stores in the other half, which nothing looks at yet.
     fn fill_spare<K: Kept>(self, words: &mut K, home: &[u64]) -> Result<(), Dark>
         requires { (self.held + length home.now ≤ 262144) × (self.spare + length home.now ≤ 262144) }
-        ensures { Follows (copies self.spare home.now) (word words.old) result (tt {0}) (word words.new) }
+        ensures { Follows (copies self.spare home.now) (K.word words.old) result (tt {0}) (K.word words.new) }
     {
         copy(words, self.spare, home)
     }
 
     fn read_held<K: Kept>(self, words: &K, home: &mut [u64])
         requires { (self.held + length home.old ≤ 262144) × (self.spare + length home.old ≤ 262144) }
-        ensures { (j : ℕ) → j < length home.old → slice_index home.new j ≡ word words.now (self.held + j) }
+        ensures { (j : ℕ) → j < length home.old → slice_index home.new j ≡ (K.word words.now) (self.held + j) }
     {
         read(words, self.held, home);
     }
@@ -102,9 +102,9 @@ impl Places {
 // Makes these the home words: all of them, or none where the power fails before the end.
 pub fn commit<K: Kept>(words: &mut K, home: &[u64]) -> Result<(), Dark>
     requires { 2 * length home.now < 262144 }
-    ensures follows { Follows (commits home.now) (word words.old) result (tt {0}) (word words.new) }
-    ensures whole { Whole home.now (word words.old) result (word words.new) }
-    ensures budget { Budget home.now (word words.old) }
+    ensures follows { Follows (commits home.now) (K.word words.old) result (tt {0}) (K.word words.new) }
+    ensures whole { Whole home.now (K.word words.old) result (K.word words.new) }
+    ensures budget { Budget home.now (K.word words.old) }
 {
     let at = locate(words.load(0), home.len());
     if differ(words, at.held, home) <= 1 {
@@ -117,7 +117,7 @@ pub fn commit<K: Kept>(words: &mut K, home: &[u64]) -> Result<(), Dark>
 // Makes these the home words if they may have changed; if not, nothing is looked at.
 pub fn keep<K: Kept>(words: &mut K, home: &[u64], changed: bool) -> Result<(), Dark>
     requires { 2 * length home.now < 262144 }
-    ensures { Follows (keeping changed home.now) (word words.old) result (tt {0}) (word words.new) }
+    ensures { Follows (keeping changed home.now) (K.word words.old) result (tt {0}) (K.word words.new) }
 {
     if changed {
         return commit(words, home);
@@ -133,7 +133,7 @@ pub fn finish<K: Kept, V: Drop>(
     answer: V,
 ) -> Result<V, Dark>
     requires { 2 * length home.now < 262144 }
-    ensures { FollowsTo (finishing changed home.now answer) (word words.old) result (λ v. v) (word words.new) }
+    ensures { FollowsTo (finishing changed home.now answer) (K.word words.old) result (λ v. v) (K.word words.new) }
 {
     keep(words, home, changed)?;
     Ok(answer)
@@ -142,8 +142,8 @@ pub fn finish<K: Kept, V: Drop>(
 // Reads the home words; it only loads, and any words are some home.
 pub fn wake<K: Kept>(words: &K, home: &mut [u64])
     requires { 2 * length home.old < 262144 }
-    ensures follows { Ended (wakening (length home.old)) (word words.now) home.new (word words.now) }
-    ensures whole { (h : List ℕ) → length h ≡ length home.old → Holds h (word words.now) → home.new ≡ h }
+    ensures follows { Ended (wakening (length home.old)) (K.word words.now) home.new (K.word words.now) }
+    ensures whole { (h : List ℕ) → length h ≡ length home.old → Holds h (K.word words.now) → home.new ≡ h }
 {
     let at = locate(words.load(0), home.len());
     at.read_held(words, home);

@@ -1,6 +1,7 @@
 // One pass: tasks of jobs that are no longer wanted end, each job makes one step, and tasks that wait are placed.
 // The state after it is `settle` of the state before. Nothing allocates, nothing recurses, each loop goes over rows.
 #![tactic(auto)]
+
 pub mod choosing;
 pub mod counting;
 pub mod ending;

@@ -6,22 +6,22 @@ use Rattle.settling.specs.declared.tally.Picks.{Picks}
 use Rattle.settling.proofs.Tallies.{takes_new, takes_old}
 use Rattle.settling.proofs.counting.step.Goals as goal
 
-pub returns-then-version-from-job : goal.returns-then-version-from-job
-returns-then-version-from-job c =
+pub returns-then-version_from-job : goal.returns-then-version_from-job
+returns-then-version_from-job c =
     let y = c.args.tally in
-    let ends : is_ending (phase_of c.phase-from-phase.result) ≡ false = sym c.ending-now.ensures ∙ c.if-ending-now.false in
-    let named : c.is-named.result ≡ true = search rules in
-    ap (λ (p : Picks). record { total = y.total + 1; all = y.all + 1; new = y.new + 1; ready = y.ready + bool_byte c.ready-now-ready.result; old = y.old; newer = p }) c.pick-next.ensures ∙
-    takes_new c.args.home.now c.args.live.now c.args.time c.args.i c.task-row-row.result.now c.task-kind-kind.result.now c.task-row-row.ensures.is c.task-kind-kind.ensures.is (job_of c.args.job.now) y
-    c.is-named.result c.is-named.ensures named (phase_of c.phase-from-phase.result) (machine_of c.phase-from-phase.result) c.phase-from-phase.ensures.phase c.phase-from-phase.ensures.machine
-    ends c.if-row-eq0.false c.ready-now-ready.result c.spare-idle.result c.ready-now-ready.ensures c.spare-idle.ensures c.version-from.result.0 c.version-from.ensures c.if-version-from-job.true
+    let ends : is_ending (phase_of c.phase_from-phase.result) ≡ false = sym c.ending_now.ensures ∙ c.if-ending_now.false in
+    let named : c.is_named.result ≡ true = search rules in
+    ap (λ (p : Picks). record { total = y.total + 1; all = y.all + 1; new = y.new + 1; ready = y.ready + bool_byte c.ready_now-ready.result; old = y.old; newer = p }) c.pick-next.ensures ∙
+    takes_new c.args.home.now c.args.live.now c.args.time c.args.i c.task_row-row.result.now c.task_kind-kind.result.now c.task_row-row.ensures.is c.task_kind-kind.ensures.is (job_of c.args.job.now) y
+    c.is_named.result c.is_named.ensures named (phase_of c.phase_from-phase.result) (machine_of c.phase_from-phase.result) c.phase_from-phase.ensures.phase c.phase_from-phase.ensures.machine
+    ends c.if-row-eq0.false c.ready_now-ready.result c.spare-idle.result c.ready_now-ready.ensures c.spare-idle.ensures c.version_from.result.0 c.version_from.ensures c.if-version_from-job.true
 
-pub returns-else-version-from-job : goal.returns-else-version-from-job
-returns-else-version-from-job c =
+pub returns-else-version_from-job : goal.returns-else-version_from-job
+returns-else-version_from-job c =
     let y = c.args.tally in
-    let ends : is_ending (phase_of c.phase-from-phase.result) ≡ false = sym c.ending-now.ensures ∙ c.if-ending-now.false in
-    let named : c.is-named.result ≡ true = search rules in
-    ap (λ (p : Picks). record { total = y.total + 1; all = y.all + 1; new = y.new; ready = y.ready + bool_byte c.ready-now-ready.result; old = p; newer = y.newer }) c.pick-next-else-version-from-job.ensures ∙
-    takes_old c.args.home.now c.args.live.now c.args.time c.args.i c.task-row-row.result.now c.task-kind-kind.result.now c.task-row-row.ensures.is c.task-kind-kind.ensures.is (job_of c.args.job.now) y
-    c.is-named.result c.is-named.ensures named (phase_of c.phase-from-phase.result) (machine_of c.phase-from-phase.result) c.phase-from-phase.ensures.phase c.phase-from-phase.ensures.machine
-    ends c.if-row-eq0.false c.ready-now-ready.result c.spare-idle.result c.ready-now-ready.ensures c.spare-idle.ensures c.version-from.result.0 c.version-from.ensures c.if-version-from-job.false
+    let ends : is_ending (phase_of c.phase_from-phase.result) ≡ false = sym c.ending_now.ensures ∙ c.if-ending_now.false in
+    let named : c.is_named.result ≡ true = search rules in
+    ap (λ (p : Picks). record { total = y.total + 1; all = y.all + 1; new = y.new; ready = y.ready + bool_byte c.ready_now-ready.result; old = p; newer = y.newer }) c.pick-next-else-version_from-job.ensures ∙
+    takes_old c.args.home.now c.args.live.now c.args.time c.args.i c.task_row-row.result.now c.task_kind-kind.result.now c.task_row-row.ensures.is c.task_kind-kind.ensures.is (job_of c.args.job.now) y
+    c.is_named.result c.is_named.ensures named (phase_of c.phase_from-phase.result) (machine_of c.phase_from-phase.result) c.phase_from-phase.ensures.phase c.phase_from-phase.ensures.machine
+    ends c.if-row-eq0.false c.ready_now-ready.result c.spare-idle.result c.ready_now-ready.ensures c.spare-idle.ensures c.version_from.result.0 c.version_from.ensures c.if-version_from-job.false

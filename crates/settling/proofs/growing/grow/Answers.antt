@@ -10,7 +10,7 @@ pub returns : goal.returns
 returns c =
     let may : may_grow_lem (job_of c.args.job.now) (state_of c.args.home.now c.args.live.now c.args.time) ≡ true = search rules in
     record {
-      state = grows_so (job_of c.args.job.now) c.args.home.now c.args.live.now c.make-room.new.home c.make-room.new.live c.add-task.new.home c.add-task.new.live c.args.time c.args.j
-          c.requires.words c.requires.within c.requires.job may c.make-room.ensures.same (c.add-task.ensures.state c.args.time);
-      frame = frame_then c.args.home.now c.args.live.now c.make-room.new.home c.make-room.new.live c.add-task.new.home c.add-task.new.live c.make-room.ensures.same.frame c.add-task.ensures.frame;
+      state = grows_so (job_of c.args.job.now) c.args.home.now c.args.live.now c.make_room.new.home c.make_room.new.live c.add_task.new.home c.add_task.new.live c.args.time c.args.j
+          c.requires.words c.requires.within c.requires.job may c.make_room.ensures.same (c.add_task.ensures.state c.args.time);
+      frame = frame_then c.args.home.now c.args.live.now c.make_room.new.home c.make_room.new.live c.add_task.new.home c.add_task.new.live c.make_room.ensures.same.frame c.add_task.ensures.frame;
     }

@@ -8,10 +8,10 @@ use Rattle.settling.proofs.loads.weigh_all.Goals as goal
 use Rattle.settling.proofs.loads.weigh_all.Goals.{in-Some, in-None}
 
 pub loop-i-init : goal.loop-i-init
-loop-i-init c = λ live. loaded_none (name_of c.args.job.now) c.args.home.now live c.clear_all_lem.new.loads c.clear_all_lem.ensures
+loop-i-init c = λ live. loaded_none (name_of c.args.job.now) c.args.home.now live c.clear_all.new.loads c.clear_all.ensures
 
-pub add-to-all-requires : goal.add-to-all-requires
-add-to-all-requires c = record {
+pub add_to_all-requires : goal.add_to_all-requires
+add_to_all-requires c = record {
   words = c.requires.words;
   size = search rules;
   few = loaded_light (name_of c.args.job.now) c.args.home.now [] c.loop-i.i c.loop-i.loads (omega arith) (c.loop-i.invariant []);
@@ -25,6 +25,6 @@ loop-i-preserved c =
     let job = name_of c.args.job.now in
     let home = c.args.home.now in
     elim c.match-weight.branch [
-      | in-Some w ↦ rw w.loads-is (λ live. loaded_more job home live c.loop-i.i c.loop-i.loads w.add-to-all.new.loads w.in-Some.w (w.in-Some.ensures live) w.add-to-all.ensures (c.loop-i.invariant live))
+      | in-Some w ↦ rw w.loads-is (λ live. loaded_more job home live c.loop-i.i c.loop-i.loads w.add_to_all.new.loads w.in-Some.w (w.in-Some.ensures live) w.add_to_all.ensures (c.loop-i.invariant live))
       | in-None w ↦ rw w.loads-is (λ live. loaded_same job home live c.loop-i.i c.loop-i.loads (w.in-None.ensures live) (c.loop-i.invariant live))
     ]

@@ -12,19 +12,19 @@ use Rattle.settling.proofs.presence.present_in.Goals.{then-row-eq0-via-then-row-
 pub returns-then-row-eq0 : goal.returns-then-row-eq0
 returns-then-row-eq0 c =
     let p = is_present c.args.time c.args.num.0 in
-    let r = c.machine-row-row.result.now in
+    let r = c.machine_row-row.result.now in
     let h = at c.args.live.now c.args.i in
     let e : some p (machine_slot r h) ≡ false = elim c.then-row-eq0.branch [
       | then-row-eq0-via-then-row-eq0 w ↦ machine_hole p r h w.if-row-eq0.true
       | then-row-eq0-via-else-row-eq0+then-num-row w ↦ machine_full p r h w.if-row-eq0.false ∙ and_left _ (present c.args.time (machine_from r h)) (ne_eqb c.args.num.0 (at r 1 % 65536) w.if-num-row.true)
     ] in
-    sym e ∙ ap (λ (x : List ℕ). some p (machine_slot x h)) c.machine-row-row.ensures.is
+    sym e ∙ ap (λ (x : List ℕ). some p (machine_slot x h)) c.machine_row-row.ensures.is
 
 pub returns : goal.returns
 returns c =
     let p = is_present c.args.time c.args.num.0 in
-    let r = c.machine-row-row.result.now in
+    let r = c.machine_row-row.result.now in
     let h = at c.args.live.now c.args.i in
     let k : eqb c.args.num.0 (at r 1 % 65536) ≡ true = eq-eqb c.args.num.0 (at r 1 % 65536) c.if-num-row.false in
     let e : some p (machine_slot r h) ≡ present c.args.time (machine_from r h) = machine_full p r h c.if-row-eq0.false ∙ rw k in
-    c.heard-lately.ensures ∙ sym e ∙ ap (λ (x : List ℕ). some p (machine_slot x h)) c.machine-row-row.ensures.is
+    c.heard_lately.ensures ∙ sym e ∙ ap (λ (x : List ℕ). some p (machine_slot x h)) c.machine_row-row.ensures.is

@@ -10,18 +10,18 @@ use Rattle.settling.proofs.Sweeps.{orphan_hole, orphan_wanted, orphan_put}
 use Rattle.settling.proofs.sweeping.end_orphan.Goals as goal
 
 pub returns-then-row-eq0 : goal.returns-then-row-eq0
-returns-then-row-eq0 c = λ live. orphan_hole c.args.home.now live c.args.i (row_hole c.args.home.now live c.task-row-row.result.now c.args.i c.task-row-row.ensures.is c.if-row-eq0.true)
+returns-then-row-eq0 c = λ live. orphan_hole c.args.home.now live c.args.i (row_hole c.args.home.now live c.task_row-row.result.now c.args.i c.task_row-row.ensures.is c.if-row-eq0.true)
 
 pub returns-in-None : goal.returns-in-None
 returns-in-None c = λ live.
     let home = c.args.home.now in
-    let n : name_of c.name-from-name.result ≡ name_from_lem (drop 4 (task_row_lem home c.args.i)) = c.name-from-name.ensures ∙ job_is home live c.args.i c.task-row-row.result.now c.task-kind.result.now c.task-row-row.ensures.is c.task-kind.ensures.is in
-    orphan_put home live c.end-task.new.home c.args.i (task_from (task_row_lem home c.args.i) (at live _)) (row_full home live c.task-row-row.result.now c.args.i c.task-row-row.ensures.is c.if-row-eq0.false)
-    (ap (λ (x : s.Name). find (is_job x) (jobs_of home)) (sym n) ∙ c.in-None.ensures) (c.end-task.ensures live)
+    let n : name_of c.name_from-name.result ≡ name_from_lem (drop 4 (task_row_lem home c.args.i)) = c.name_from-name.ensures ∙ job_is home live c.args.i c.task_row-row.result.now c.task_kind.result.now c.task_row-row.ensures.is c.task_kind.ensures.is in
+    orphan_put home live c.end_task.new.home c.args.i (task_from (task_row_lem home c.args.i) (at live _)) (row_full home live c.task_row-row.result.now c.args.i c.task_row-row.ensures.is c.if-row-eq0.false)
+    (ap (λ (x : s.Name). find (is_job x) (jobs_of home)) (sym n) ∙ c.in-None.ensures) (c.end_task.ensures live)
 
 pub returns-in-Some : goal.returns-in-Some
 returns-in-Some c = λ live.
     let home = c.args.home.now in
-    let n : name_of c.name-from-name.result ≡ name_from_lem (drop 4 (task_row_lem home c.args.i)) = c.name-from-name.ensures ∙ job_is home live c.args.i c.task-row-row.result.now c.task-kind.result.now c.task-row-row.ensures.is c.task-kind.ensures.is in
-    orphan_wanted home live c.args.i (task_from (task_row_lem home c.args.i) (at live _)) c.in-Some.ensures.0 (row_full home live c.task-row-row.result.now c.args.i c.task-row-row.ensures.is c.if-row-eq0.false)
+    let n : name_of c.name_from-name.result ≡ name_from_lem (drop 4 (task_row_lem home c.args.i)) = c.name_from-name.ensures ∙ job_is home live c.args.i c.task_row-row.result.now c.task_kind.result.now c.task_row-row.ensures.is c.task_kind.ensures.is in
+    orphan_wanted home live c.args.i (task_from (task_row_lem home c.args.i) (at live _)) c.in-Some.ensures.0 (row_full home live c.task_row-row.result.now c.args.i c.task_row-row.ensures.is c.if-row-eq0.false)
     (ap (λ (x : s.Name). find (is_job x) (jobs_of home)) (sym n) ∙ c.in-Some.ensures.3)
