@@ -1,5 +1,6 @@
 // `agent MACHINE [DIR]`: an agent's moves by lines of standard input, and what it sends, starts and stops on standard output.
 #![tactic(auto)]
+
 mod life;
 mod line;
 mod serve;

@@ -1,6 +1,7 @@
 // What an agent does on its machine: it comes up with a life that was never used, reports, obeys the answer to its last
 // report and nothing else, and starts what is ordered. Each move is a step of the model, or several, or none.
 #![tactic(auto)]
+
 pub mod agent;
 pub mod deeds;
 pub mod head;

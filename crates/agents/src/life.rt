@@ -3,8 +3,8 @@ ghost use Rattle.std.specs.Prelude.{◌≡◌, Ok};
 ghost use Rattle.model.specs.Wire.{meant};
 ghost use Rattle.agents.specs.LifeFile.{Reads, Rises, life_bytes_lem, read_life_lem};
 
-use octets::field::u64_at;
 use jobs::ids::Life;
+use octets::field::u64_at;
 
 // The last life that an agent may have, as the herd takes none above it.
 pub const LAST: u64 = 4_611_686_018_427_387_904;

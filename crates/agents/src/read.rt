@@ -9,9 +9,9 @@ ghost use Rattle.agents.specs.Answering.{HeardAs, OrderRead, OrdersAs};
 use crate::head::Head;
 use crate::heard::{Heard, Run};
 use crate::order::Order;
-use octets::field::{u16_at, u32_at, u64_at};
 use jobs::ids::{Life, MachineId, ReportNumber, TaskId};
 use jobs::spec::Spec;
+use octets::field::{u16_at, u32_at, u64_at};
 use std::alloc::Global;
 
 // Orders, if bytes are such.

@@ -18,3 +18,4 @@ pub mod Sets
 pub mod Different
 pub mod Rises
 pub mod Soundness
+pub mod Quiet

@@ -1,5 +1,6 @@
 // Calls and answers, as values of the code: what is said to the herd, and what it says.
 #![tactic(auto)]
+
 pub mod act;
 pub mod add;
 pub mod answer;

@@ -2,8 +2,8 @@
 ghost use Rattle.std.specs.Prelude.{◌≡◌, ℕ, ◌≤◌, length, take};
 ghost use Rattle.calls.specs.Wanted.{NamedAs};
 
-use octets::field::u64_at;
 use jobs::name::Name;
+use octets::field::u64_at;
 
 fn padded(bytes: &[u8]) -> [u8; 64]
     requires { length bytes.now ≤ 64 }

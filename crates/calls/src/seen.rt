@@ -4,8 +4,8 @@ ghost use Rattle.model.specs.Calls.{seen_as};
 ghost use Rattle.calls.specs.Meaning.{seens_of};
 ghost use Rattle.calls.specs.Seen.{SeenAs};
 
-use octets::field::u64_at;
 use jobs::ids::TaskId;
+use octets::field::u64_at;
 
 // Whether it is listed, and then whether it is ready; the first place counts.
 pub fn seen(tasks: &[u8], id: TaskId) -> Option<bool>

@@ -1,5 +1,6 @@
 // `herd [DIR]`: answers each line of standard input by one line of standard output, over the kept words in DIR.
 #![tactic(auto)]
+
 mod kept;
 mod serve;
 

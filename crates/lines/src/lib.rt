@@ -1,5 +1,6 @@
 // Lines: calls and answers as bytes, and the function that answers a line.
 #![tactic(auto)]
+
 pub mod answer;
 pub mod hex;
 pub mod line;

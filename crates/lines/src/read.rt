@@ -5,9 +5,9 @@ ghost use Rattle.model.specs.Calls.{Close, EndJob, Forget, Reopen, Show};
 ghost use Rattle.calls.specs.Meaning.{like_of};
 ghost use Rattle.lines.specs.Reads.{Named, Numbered, ReadAs};
 
-use octets::field::{u16_at, u32_at, u64_at};
 use calls::call::{Added, Call, Likeness, Reported, Wanted};
 use jobs::ids::{Life, MachineId, ReportNumber};
+use octets::field::{u16_at, u32_at, u64_at};
 
 // A name behind its length.
 fn named(rest: &[u8]) -> Option<&[u8]>

@@ -4,8 +4,8 @@ ghost use Rattle.model.specs.Wire.{bytes_of, flag_of, spec_bytes, tag_bytes};
 ghost use Rattle.jobs.specs.Values.{spec_of};
 ghost use Rattle.lines.specs.Puts.{Puts};
 
-use octets::number::put;
 use jobs::spec::Spec;
+use octets::number::put;
 
 pub fn put_u8(out: &mut [u8], at: usize, n: u8) -> usize
     requires { at + 1 ≤ length out.old }

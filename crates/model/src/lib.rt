@@ -8,6 +8,7 @@
 // run: of code over kept words, wherever it is cut
 // cases: worked cases, by computation
 #![tactic(auto)]
+
 pub mod cases;
 pub mod run;
 pub mod state;

@@ -8,8 +8,8 @@ use Rattle.calls.proofs.Outcomes.{acted_no, acted_yes}
 use Rattle.calls.proofs.Timed.{fine_then, tick_zero, tick_late, tick_yes}
 use Rattle.calls.proofs.clock.tell.Goals as goal
 
-pub go-on-requires : goal.go-on-requires
-go-on-requires c = record { words = c.requires.words; flags = c.requires.flags; fine = fine_then _ _ c.args.time _ c.requires.fine }
+pub go_on-requires : goal.go_on-requires
+go_on-requires c = record { words = c.requires.words; flags = c.requires.flags; fine = fine_then _ _ c.args.time _ c.requires.fine }
 
 pub returns-then-ms-eq0 : goal.returns-then-ms-eq0
 returns-then-ms-eq0 c =
@@ -18,9 +18,9 @@ returns-then-ms-eq0 c =
 
 pub returns : goal.returns
 returns c =
-    let e = c.later-of-then.ensures in
+    let e = c.later_of-then.ensures in
     record {
-      told = acted_yes (Tick c.args.ms) c.args.home.now c.args.live.now _ _ c.args.time c.later-of-then.result (settle (timed c.later-of-then.result (state_of c.args.home.now c.args.live.now c.args.time)))
-          (tick_yes c.args.ms _ c.if-ms-eq0.false c.if-ms-gt-LAST.false ∙ ap (λ (t : ℕ). yes' (timed t (state_of c.args.home.now c.args.live.now c.args.time))) (sym e)) c.go-on.ensures.state;
-      long = c.go-on.ensures.long;
+      told = acted_yes (Tick c.args.ms) c.args.home.now c.args.live.now _ _ c.args.time c.later_of-then.result (settle (timed c.later_of-then.result (state_of c.args.home.now c.args.live.now c.args.time)))
+          (tick_yes c.args.ms _ c.if-ms-eq0.false c.if-ms-gt-LAST.false ∙ ap (λ (t : ℕ). yes' (timed t (state_of c.args.home.now c.args.live.now c.args.time))) (sym e)) c.go_on.ensures.state;
+      long = c.go_on.ensures.long;
     }

@@ -4,4 +4,4 @@ use Rattle.calls.proofs.names.padded.Goals as goal
 
 pub returns : goal.returns
 returns c =
-    let e : c.copy-from-slice.new.self ≡ c.args.bytes.now = search rules in take_at c.copy-from-slice.new.self _ (length c.args.bytes.now) (ap length e) ∙ e
+    let e : c.copy_from_slice.new.self ≡ c.args.bytes.now = search rules in take_at c.copy_from_slice.new.self _ (length c.args.bytes.now) (ap length e) ∙ e

@@ -3,9 +3,9 @@ use Rattle.calls.proofs.Different.{machine_hole, machine_found}
 use Rattle.calls.proofs.sound.first_machine.Goals as goal
 
 pub returns-then-row-eq0 : goal.returns-then-row-eq0
-returns-then-row-eq0 c = machine_hole c.args.home.now c.machine-row-row.result.now c.args.i c.machine-row-row.ensures.is c.if-row-eq0.true
+returns-then-row-eq0 c = machine_hole c.args.home.now c.machine_row-row.result.now c.args.i c.machine_row-row.ensures.is c.if-row-eq0.true
 
 pub returns : goal.returns
 returns c =
-    c.found-in.ensures ∙
-    machine_found c.args.home.now c.machine-row-row.result.now c.args.i c.requires.within c.machine-row-row.ensures.is c.if-row-eq0.false c.find-machine.result (c.find-machine.ensures [])
+    c.found_in.ensures ∙
+    machine_found c.args.home.now c.machine_row-row.result.now c.args.i c.requires.within c.machine_row-row.ensures.is c.if-row-eq0.false c.find_machine.result (c.find_machine.ensures [])

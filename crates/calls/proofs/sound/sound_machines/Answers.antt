@@ -6,10 +6,10 @@ pub loop-i-init : goal.loop-i-init
 loop-i-init c = machines_none c.args.home.now
 
 pub loop-i-preserved : goal.loop-i-preserved
-loop-i-preserved c = machines_more c.args.home.now c.loop-i.i c.loop-i.invariant (sym c.first-machine.ensures ∙ c.if-not-first-machine.false)
+loop-i-preserved c = machines_more c.args.home.now c.loop-i.i c.loop-i.invariant (sym c.first_machine.ensures ∙ c.if-not-first_machine.false)
 
-pub returns-then-not-first-machine : goal.returns-then-not-first-machine
-returns-then-not-first-machine c = machines_twice c.args.home.now c.loop-i.i (omega arith) (sym c.first-machine.ensures ∙ c.if-not-first-machine.true)
+pub returns-then-not-first_machine : goal.returns-then-not-first_machine
+returns-then-not-first_machine c = machines_twice c.args.home.now c.loop-i.i (omega arith) (sym c.first_machine.ensures ∙ c.if-not-first_machine.true)
 
 pub returns : goal.returns
 returns c = machines_all c.args.home.now c.loop-i.i (omega arith) c.loop-i.invariant

@@ -13,9 +13,9 @@ returns-then-spec-image c =
     let a = c.args.spec.now in
     let p = c.args.kind.now in
     sym (spec_not (eqb a.image (low (at p 1))) (eqb a.cpu (low (at p 2))) (eqb a.mem (low (at p 3))) _ (alike a.apart (flag (at p 4))) (elim c.then-spec-image.branch [
-      | then-spec-image-via-then-spec-image w ↦ inl (ne_eqb a.image _ (λ e. w.if-spec-image.true (e ∙ sym c.low-half-image.ensures)))
-      | then-spec-image-via-else-spec-image+then-spec-cpu w ↦ inr (inl (ne_eqb a.cpu _ (λ e. w.if-spec-cpu.true (e ∙ sym c.low-half-cpu.ensures))))
-      | then-spec-image-via-else-spec-image+else-spec-cpu+then-spec-mem w ↦ inr (inr (inl (ne_eqb a.mem _ (λ e. w.if-spec-mem.true (e ∙ sym c.low-half-mem.ensures)))))
+      | then-spec-image-via-then-spec-image w ↦ inl (ne_eqb a.image _ (λ e. w.if-spec-image.true (e ∙ sym c.low_half-image.ensures)))
+      | then-spec-image-via-else-spec-image+then-spec-cpu w ↦ inr (inl (ne_eqb a.cpu _ (λ e. w.if-spec-cpu.true (e ∙ sym c.low_half-cpu.ensures))))
+      | then-spec-image-via-else-spec-image+else-spec-cpu+then-spec-mem w ↦ inr (inr (inl (ne_eqb a.mem _ (λ e. w.if-spec-mem.true (e ∙ sym c.low_half-mem.ensures)))))
       | then-spec-image-via-else-spec-image+else-spec-cpu+else-spec-mem+then-spec-apart w ↦ inr (inr (inr (unlike_not a.apart (flag (at p 4)) w.if-spec-apart.true)))
     ]))
 
@@ -24,5 +24,5 @@ returns c =
     let a = c.args.spec.now in
     let p = c.args.kind.now in
     spec_counts (eqb a.image (low (at p 1))) (eqb a.cpu (low (at p 2))) (eqb a.mem (low (at p 3))) _ _ a.apart (flag (at p 4))
-    (eq-eqb a.image _ (c.if-spec-image.false ∙ c.low-half-image.ensures)) (eq-eqb a.cpu _ (c.if-spec-cpu.false ∙ c.low-half-cpu.ensures)) (eq-eqb a.mem _ (c.if-spec-mem.false ∙ c.low-half-mem.ensures))
-    c.same-tags.ensures c.if-spec-apart.false
+    (eq-eqb a.image _ (c.if-spec-image.false ∙ c.low_half-image.ensures)) (eq-eqb a.cpu _ (c.if-spec-cpu.false ∙ c.low_half-cpu.ensures)) (eq-eqb a.mem _ (c.if-spec-mem.false ∙ c.low_half-mem.ensures))
+    c.same_tags.ensures c.if-spec-apart.false

@@ -16,7 +16,7 @@ returns-then-spec-a c =
     let u : length c.args.spec.now.tags ≡ 8 = search rules in
     let f = c.args.spec.now.few in
     let t = tag_of p c.loop-a.a c.requires (omega arith) in
-    sym (front_other c.args.spec.now.count (min (at p 5) 8) c.args.spec.now.tags (tags_at p) (omega arith) (omega arith) c.loop-a.a (search rules) (omega arith) (λ e. c.if-spec-a.true (e ∙ t ∙ sym c.low-half.ensures)))
+    sym (front_other c.args.spec.now.count (min (at p 5) 8) c.args.spec.now.tags (tags_at p) (omega arith) (omega arith) c.loop-a.a (search rules) (omega arith) (λ e. c.if-spec-a.true (e ∙ t ∙ sym c.low_half.ensures)))
 
 pub returns : goal.returns
 returns c =

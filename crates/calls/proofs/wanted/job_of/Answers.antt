@@ -7,7 +7,7 @@ use Rattle.calls.proofs.wanted.job_of.Goals.{else-wanted-3-via-then-wanted-3+the
 pub returns : goal.returns
 returns c =
     let n = c.in-Some.ensures in
-    let a = c.in-Some-spec-of.ensures in
+    let a = c.in-Some-spec_of.ensures in
     let lc = c.if-wanted.false in
     let cm = c.if-wanted-2.false in
     let free : (c.args.wanted.least < c.args.wanted.count) ⊎ ((c.args.wanted.count < c.args.wanted.most) ⊎ (c.args.wanted.count ≡ 0)) = elim c.else-wanted-3.branch [

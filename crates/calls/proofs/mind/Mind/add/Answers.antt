@@ -6,5 +6,5 @@ use Rattle.calls.proofs.mind.Mind.add.Goals as goal
 pub add-requires : goal.add-requires
 add-requires c = record { words = search rules; flags = search rules; fine = sound_fine c.args.self.now.home c.args.self.now.live c.args.self.now.time c.args.self.now.sound }
 
-pub invariant-of-self : goal.invariant-of-self
-invariant-of-self c = (acted_sound _ _ _ _ _ _ _ _ c.add.ensures.acted c.args.self.now.sound, tt)
+pub invariant_of-self : goal.invariant_of-self
+invariant_of-self c = record { sound = acted_sound _ _ _ _ _ _ _ _ c.add.ensures.acted c.args.self.now.sound }
