@@ -11,7 +11,7 @@ use Rattle.calls.specs.declared.call.Reported.{Reported}
 use Rattle.calls.specs.Meaning.{call_of, seens_of}
 use Rattle.calls.specs.Reports.{out_of_range_lem, stale_for}
 
-seens_length : (n : ℕ) (bs : Bytes) → length (seens_in n bs) ≡ n
+pub seens_length : (n : ℕ) (bs : Bytes) → length (seens_in n bs) ≡ n
 unfolding seens_in
 seens_length zero bs = refl
 seens_length (suc n) bs = ap suc (seens_length n (drop 9 bs))

@@ -8,7 +8,8 @@ use Rattle.model.specs.Calls.{Call, Report, Out, acts, no}
 use Rattle.model.specs.Wire.{Bytes, Read, garbled, meant, byte_at, field, read_kind_lem, read_call, read_report_lem, seens_in, flags_in}
 use Rattle.model.specs.Lines.{call_in}
 use Rattle.calls.proofs.News.{seens_length}
-use Rattle.lines.specs.Held.{room, call_room, Holds, Undoable, LongerAs}
+use Rattle.lines.specs.Held.{room, call_room, Holds}
+use Rattle.lines.specs.Overlong.{AreBytes, Undoable, LongerAs}
 
 -- nothing that is read is no call
 unread : {P : Type 0} (c : Call) → garbled ≡ meant c → P
@@ -63,7 +64,7 @@ module _ (bs : Bytes) (long : call_room ≤ length bs) (small : (i : ℕ) → i 
       (by_kind k 9 _ _ c (misfits _ _ _ c (λ (e : length bs ≡ 1 + byte_at 0 bs). omega arith)) (unread c)))))))))
 
 -- a line that is longer than is held
-module _ (bytes : Bytes) (count : ℕ) (line : Bytes) (h : Holds bytes count line) where
+module _ (bytes : Bytes) (count : ℕ) (line : Bytes) (h : Holds bytes count line) (small : AreBytes line) where
   -- where it is longer, what is behind the frame is too long for any call
   behind : room < count → Undoable (drop 8 line)
   behind l c e s =
@@ -71,7 +72,7 @@ module _ (bytes : Bytes) (count : ℕ) (line : Bytes) (h : Holds bytes count lin
       let long : room < length line = omega (arith, q) in
       let f : drop 8 line ≡ get_or line 8 0 ∷ drop 9 line = drop_more line 8 0 (omega arith) in
       kinds (drop 9 line) (let d = length-drop 9 line in omega arith)
-      (λ i b. let g = get_or-drop 9 line i 0 in let k = h.small (9 + i) in omega arith)
+      (λ i b. let g = get_or-drop 9 line i 0 in let k = small (9 + i) in omega arith)
       c s (get_or line 8 0) (sym (ap read_call f) ∙ e)
 
   pub longer : room < count → Undoable (call_in line)
@@ -91,5 +92,5 @@ whole bytes count line h l = pick (ltb (length line) 8) (eqb (field 4 0 line + 4
     pick false true = let q = h.long in let d = length-drop 8 line in take_all call_room (drop 8 line) (omega arith)
     pick false false = refl
 
-pub longer_as : (bytes : Bytes) (count : ℕ) (line : Bytes) → Holds bytes count line → LongerAs line (ltb room count)
-longer_as bytes count line h = elim (cases_Bool (ltb room count)) [ inl t ↦ rw t (longer bytes count line h (ltb-true room count t)) | inr f ↦ rw f (whole bytes count line h (ltb-false room count f)) ]
+pub longer_as : (bytes : Bytes) (count : ℕ) (line : Bytes) → Holds bytes count line → AreBytes line → LongerAs line (ltb room count)
+longer_as bytes count line h b = elim (cases_Bool (ltb room count)) [ inl t ↦ rw t (longer bytes count line h b (ltb-true room count t)) | inr f ↦ rw f (whole bytes count line h (ltb-false room count f)) ]

@@ -9,15 +9,15 @@ loop-i-init g c = (lists_start _ _ (task_at c.args.home.now c.args.live.now) c.a
 
 pub loop-i-preserved : goal.loop-i-preserved
 loop-i-preserved g c = (
-  lists_more _ _ (task_at c.args.home.now c.args.live.now) c.loop-i.i c.loop-i.invariant.0 (lists_as _ _ (ap (λ (r : List ℕ). task_slot r (at c.args.live.now (256 + c.loop-i.i))) c.task-row.ensures.is) c.put-row-listed.ensures.lists),
-  omega (arith, c.loop-i.invariant.1, c.put-row-listed.ensures.room),
-  omega (arith, c.loop-i.invariant.2, c.put-row-listed.ensures.few),
+  lists_more _ _ (task_at c.args.home.now c.args.live.now) c.loop-i.i c.loop-i.invariant.0 (lists_as _ _ (ap (λ (r : List ℕ). task_slot r (at c.args.live.now (256 + c.loop-i.i))) c.task_row.ensures.is) c.put_row-listed.ensures.lists),
+  omega (arith, c.loop-i.invariant.1, c.put_row-listed.ensures.room),
+  omega (arith, c.loop-i.invariant.2, c.put_row-listed.ensures.few),
 )
 
 pub returns : goal.returns
 returns g c =
-    let e : c.loop-i.i ≡ task_rows_lem c.args.home.now = omega (arith, c.task-rows-i-end.ensures.is) in
+    let e : c.loop-i.i ≡ task_rows_lem c.args.home.now = omega (arith, c.task_rows-i-end.ensures.is) in
     record {
       lists = lists_as _ _ (ap (span (task_at c.args.home.now c.args.live.now) 0) e) c.loop-i.invariant.0;
-      room = omega (arith, c.loop-i.invariant.1, c.task-rows-i-end.ensures.few);
+      room = omega (arith, c.loop-i.invariant.1, c.task_rows-i-end.ensures.few);
     }

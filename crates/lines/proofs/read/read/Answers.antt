@@ -6,4 +6,4 @@ use Rattle.lines.proofs.Parsing.{call_read}
 use Rattle.lines.proofs.read.read.Goals as goal
 
 pub returns : goal.returns
-returns c = subst (λ (x : Read Call). ReadAs x c.read-kind.result) (call_read c.args.bytes.now (omega arith)) c.read-kind.ensures
+returns c = subst (λ (x : Read Call). ReadAs x c.read_kind.result) (call_read c.args.bytes.now (omega arith)) c.read_kind.ensures

@@ -14,5 +14,5 @@ returns-in-Some c = λ bs. ap (λ (s : Stage). resume s bs []) c.in-Clock.is ∙
 pub returns-in-None : goal.returns-in-None
 returns-in-None c = λ bs. ap (λ (s : Stage). resume s bs []) c.in-Clock.is ∙ ends_clock c.in-Clock.time bs ∙ ap (λ o. time_line_lem (number_in o)) c.in-None.is
 
-pub returns-in-default : goal.returns-in-default
-returns-in-default c = ends_rest c.args.stage c.in-default.not-High c.in-default.not-Clock
+pub returns-in_default : goal.returns-in_default
+returns-in_default c = ends_rest c.args.stage c.in_default.not-High c.in_default.not-Clock

@@ -11,20 +11,20 @@ returns-in-TurnedAway c =
     record {
       bytes = λ time.
           puts_as (ap (λ (a : Answer). answer_bytes (answer_of a (state_of c.args.home.now c.args.live.now time))) (sym c.in-TurnedAway.is))
-          (puts_then c.put-u8-end.ensures.bytes (puts_as (ap (λ (n : ℕ). n ∷ []) c.number.ensures) c.put-u8.ensures.bytes));
+          (puts_then c.put_u8-end.ensures.bytes (puts_as (ap (λ (n : ℕ). n ∷ []) c.number.ensures) c.put_u8.ensures.bytes));
       room = search rules;
     }
 
 pub returns-in-Run : goal.returns-in-Run
 returns-in-Run c =
     record {
-      bytes = λ time. puts_as (ap (λ (a : Answer). answer_bytes (answer_of a (state_of c.args.home.now c.args.live.now time))) (sym c.in-Run.is)) c.put-run.ensures.bytes;
-      room = c.put-run.ensures.room;
+      bytes = λ time. puts_as (ap (λ (a : Answer). answer_bytes (answer_of a (state_of c.args.home.now c.args.live.now time))) (sym c.in-Run.is)) c.put_run.ensures.bytes;
+      room = c.put_run.ensures.room;
     }
 
 pub returns-in-Lines : goal.returns-in-Lines
 returns-in-Lines c =
     record {
-      bytes = λ time. puts_as (ap (λ (a : Answer). answer_bytes (answer_of a (state_of c.args.home.now c.args.live.now time))) (sym c.in-Lines.is)) c.put-shown.ensures.bytes;
-      room = c.put-shown.ensures.room;
+      bytes = λ time. puts_as (ap (λ (a : Answer). answer_bytes (answer_of a (state_of c.args.home.now c.args.live.now time))) (sym c.in-Lines.is)) c.put_shown.ensures.bytes;
+      room = c.put_shown.ensures.room;
     }

@@ -10,7 +10,7 @@ use Rattle.lines.proofs.reply.put_shown.Goals as goal
 pub returns : goal.returns
 returns c =
     record {
-      bytes = puts_then c.put-u8-end.ensures.bytes (puts_as (lines_list (keep (of_job c.args.name.now) (tasks_of c.args.home.now c.args.live.now))) c.put_list.ensures.bytes);
+      bytes = puts_then c.put_u8-end.ensures.bytes (puts_as (lines_list (keep (of_job c.args.name.now) (tasks_of c.args.home.now c.args.live.now))) c.put_list.ensures.bytes);
       room = search rules;
       long = λ h. long_names_none c.args.name.now h c.args.home.now c.args.live.now;
     }

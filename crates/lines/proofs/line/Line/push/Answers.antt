@@ -17,4 +17,4 @@ returns c = λ line h.
       | then-self w ↦ subst (Counts line c.args.byte) (sym w.self-is) (holds_more _ _ line c.args.byte whole h w.if-self.true)
       | else-self w ↦ subst (Counts line c.args.byte) (sym w.self-is) (holds_past _ _ line c.args.byte h w.if-self.false)
     ] in
-    subst (λ (n : ℕ). Holds c.if-self.self.bytes n (line ++ (c.args.byte ∷ []))) (sym c.saturating-add-self.ensures) counts
+    subst (λ (n : ℕ). Holds c.if-self.self.bytes n (line ++ (c.args.byte ∷ []))) (sym c.saturating_add-self.ensures) counts
