@@ -123,7 +123,7 @@ fn task(digits: &[u8]) -> Option<TaskId> {
 
 // What a line says.
 pub fn meaning(line: &[u8]) -> Said<'_> {
-    if line == b"report" {
+    if line == b"report".as_slice() {
         return Said::Report;
     }
     if let Some(digits) = line.strip_prefix(b"answer ") {

@@ -12,7 +12,7 @@ loop-seen-init c = gather_none seen_of (flat_map (λ (x : Seen). stop_for (seens
 pub loop-seen-preserved : goal.loop-seen-preserved
 loop-seen-preserved c =
     gather_joined seen_of (λ (x : Seen). stop_for (seens_of c.args.after.now) x.id) _ c.args.before.now c.loop-seen.seen-index (record { task = record { 0 = 0 }; ready = false }) _ _ c.loop-seen-test.true c.loop-seen.invariant
-    c.in-ok-stop-one.ensures
+    c.in_ok-stop_one.ensures
 
 pub returns : goal.returns
 returns c = gather_all seen_of (flat_map (λ (x : Seen). stop_for (seens_of c.args.after.now) x.id)) _ c.args.before.now c.loop-seen.seen-index _ c.loop-seen-test.false c.loop-seen.invariant

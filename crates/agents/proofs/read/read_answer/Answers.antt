@@ -5,4 +5,4 @@ use Rattle.agents.proofs.Orders.{answer_runs}
 use Rattle.agents.proofs.read.read_answer.Goals as goal
 
 pub returns-in-2 : goal.returns-in-2
-returns-in-2 c = subst (λ (x : Read Answer). HeardAs x c.read-run.result) (answer_runs c.args.bytes.now (omega arith) c.in-2.is) c.read-run.ensures
+returns-in-2 c = subst (λ (x : Read Answer). HeardAs x c.read_run.result) (answer_runs c.args.bytes.now (omega arith) c.in-2.is) c.read_run.ensures

@@ -12,7 +12,7 @@ loop-order-init c = gather_none order_of (flat_map (λ (o : Order). task_bytes_l
 pub loop-order-preserved : goal.loop-order-preserved
 loop-order-preserved c =
     gather_item order_of (λ (o : Order). task_bytes_lem (seens_of c.args.seens.now) o.id) _ c.args.orders.now c.loop-order.order-index c.order-item.result _ _ c.loop-order-test.true c.order-item.is c.loop-order.invariant
-    c.in-ok-add-task.ensures
+    c.in_ok-add_task.ensures
 
 pub returns : goal.returns
 returns c = gather_all order_of (flat_map (λ (o : Order). task_bytes_lem (seens_of c.args.seens.now) o.id)) _ c.args.orders.now c.loop-order.order-index _ c.loop-order-test.false c.loop-order.invariant

@@ -8,5 +8,5 @@ use Rattle.agents.proofs.report.report_bytes.Goals as goal
 
 pub returns : goal.returns
 returns c =
-    c.in-ok-add-tasks.ensures ∙ ap (λ (bs : Bytes). bs ++ tasks_bytes (seens_of c.args.seens.now) (orders_of c.args.orders.now)) (c.in-ok-bytes.ensures.items ∙ c.front.ensures) ∙
+    c.in_ok-add_tasks.ensures ∙ ap (λ (bs : Bytes). bs ++ tasks_bytes (seens_of c.args.seens.now) (orders_of c.args.orders.now)) (c.in_ok-bytes.ensures.items ∙ c.front.ensures) ∙
     report_parts _ _ _ _ _ _ _ (sym (length-map c.args.orders.now _))
