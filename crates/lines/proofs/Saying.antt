@@ -44,7 +44,7 @@ kind_read (k ∷ bs) c e = one e
     one = step k 1 _ _ c (got _ _ c) (step k 2 _ _ c (got _ _ c) (step k 3 _ _ c (got _ _ c) (step k 4 _ _ c (got _ _ c) (step k 5 _ _ c (got _ _ c) (step k 6 _ _ c (got _ _ c) seven)))))
 
 -- each call has a known kind, and the one that tells the time is 8
-known : (c : Call) → is_known (kind_of c) ≡ true
+pub known : (c : Call) → is_known (kind_of c) ≡ true
 known (SetJob n a c l m) = refl
 known (EndJob n) = refl
 known (AddMachine k c m t) = refl
@@ -55,7 +55,7 @@ known (Report k l n xs) = refl
 known (Tick t) = refl
 known (Show n) = refl
 
-tick : (c : Call) → eqb (kind_of c) 8 ≡ is_tick c
+pub tick : (c : Call) → eqb (kind_of c) 8 ≡ is_tick c
 tick (SetJob n a c l m) = refl
 tick (EndJob n) = refl
 tick (AddMachine k c m t) = refl

@@ -10,17 +10,17 @@ use Rattle.model.specs.Lines.{core_kind, framed, tag_in, call_in, bytes_say, her
 use Rattle.jobs.specs.Layout.{home_words_lem}
 use Rattle.calls.specs.declared.answer.Answer.{Answer}
 use Rattle.calls.specs.declared.answer.Answer.TheVariants.{TurnedAway, Yes, Run, Lines}
-use Rattle.calls.specs.Acted as acted
+use Rattle.calls.specs.Handled as acted
 use Rattle.calls.specs.Answers.{answer_of}
 use Rattle.calls.specs.Sound.{sound_words}
 use Rattle.device.specs.Follows.{Follows}
-use Rattle.device.specs.Server.{Said, keeping, finishing}
+use Rattle.device.specs.Service.{Said, keeping, finishing}
 use Rattle.device.proofs.Calls.{call_budget}
-use Rattle.device.proofs.Telling.{finished, goes_on, does_so}
-use Rattle.serving.specs.Herd.{Held, state_in, Whole, is_quiet, SaysTo, herd_code, Tells, Awake}
+use Rattle.serving.specs.Herd.{Held, state_in, Whole, is_quiet, SaysTo, saying, herd_code, Tells, Awake}
 use Rattle.serving.specs.Responds.{Responds}
 use Rattle.serving.specs.Serves.{Serves}
 use Rattle.serving.proofs.Standing.{herd_right}
+use Rattle.serving.proofs.Telling.{finished, goes_on, does_so}
 
 -- the two ways of asking whether an answer is quiet
 same_quiet : (a : Answer) (s : State) → is_quiet (answer_of a s) ≡ acted.is_quiet a
@@ -57,13 +57,13 @@ module _ {E : Type 0} (line : Bytes) (x y : Held) (a : Answer) (reply : Bytes) (
   serves =
       let f = finished changed y.home out m n r follows in
       let way : herd_code.Does line x (finishing changed y.home out) = (out, changed, says, refl) in
-      let b = call_budget changed y.home out m in
+      let b = call_budget (saying changed out) (tt {0}) x m in
       record {
         changed = changed;
         says = says;
         follows = f;
         runs = goes_on herd_code line x m r out n (finishing changed y.home out) way f;
         tells = does_so herd_code line x m r out n (finishing changed y.home out) way f (herd_on_lines core_kind) Tells Awake herd_right;
-        silent = λ q. b.quiet (says.quiet q);
+        silent = λ q. b.shows (says.quiet q);
         budget = b;
       }

@@ -1,4 +1,5 @@
 pub mod Standing
+pub mod Telling
 pub mod Barring
 pub mod Responding
 pub mod Answering

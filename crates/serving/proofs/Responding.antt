@@ -11,8 +11,8 @@ use Rattle.calls.specs.declared.answer.Answer.TheVariants.{TurnedAway}
 use Rattle.calls.specs.declared.answer.Refusal.{Refusal}
 use Rattle.calls.specs.declared.answer.Refusal.TheVariants.{Malformed}
 use Rattle.calls.specs.Answers.{number_of}
-use Rattle.calls.specs.Acted.{Acted, ActedIf, Handled}
-use Rattle.lines.specs.Held.{Undoable}
+use Rattle.calls.specs.Handled.{Performed, PerformedIf, Handled}
+use Rattle.lines.specs.Overlong.{Undoable}
 use Rattle.lines.proofs.Saying.{kind_read, known, tick}
 use Rattle.serving.specs.Bars.{unbuilt, untimed}
 use Rattle.serving.specs.Herd.{Held, state_in}
@@ -65,10 +65,10 @@ module _ (bs : Bytes) (x : Held) (kind : ℕ) (k : kind ≡ kind_in bs) (built :
     pub responded : (y : Held) (a : Answer) → Handled c x.home x.live x.time a y.home y.live y.time → Responds bs x a y
     responded y a h =
         let b : m.core c ≡ true = is_built c (ap unbuilt (sym kind_is) ∙ built) in
-        let d : Acted c x.home x.live x.time a y.home y.live y.time = subst (λ (z : Bool). ActedIf z c x.home x.live x.time a y.home y.live y.time) b h in
+        let d : Performed c x.home x.live x.time a y.home y.live y.time = subst (λ (z : Bool). PerformedIf z c x.home x.live x.time a y.home y.live y.time) b h in
         record {
-          state = d.state ∙ sym (ap (λ (o : Said). o.state) call_says_lem);
-          answer = d.answer ∙ sym (ap (λ (o : Said). o.answer) call_says_lem);
+          state = d.acted.state ∙ sym (ap (λ (o : Said). o.state) call_says_lem);
+          answer = d.acted.answer ∙ sym (ap (λ (o : Said). o.answer) call_says_lem);
           quiet = λ t. let q = d.quiet t in λ i. record { home = q.0 i; live = q.1 i; time = q.2 i };
         }
 

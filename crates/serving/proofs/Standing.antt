@@ -14,7 +14,8 @@ use Rattle.jobs.specs.Tables.{state_of}
 use Rattle.jobs.proofs.Darkness.{goes_dark_lem}
 use Rattle.calls.specs.Sound.{sound_words}
 use Rattle.calls.proofs.Soundness.{zeros_at, zeros_blank, zeros_sound}
-use Rattle.device.specs.Server.{zeros, Allows}
+use Rattle.device.specs.Service.{zeros}
+use Rattle.device.specs.Server.{Allows}
 use Rattle.device.proofs.Allowed.{right, runs, length_zeros, zeros_zero}
 use Rattle.serving.specs.Herd.{Held, state_in, Whole, wakes_as, herd_server, herd_code, Stands, Tells, Awake}
 

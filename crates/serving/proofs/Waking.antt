@@ -6,9 +6,9 @@ use Rattle.model.specs.Memory.{Memory}
 use Rattle.model.specs.State.{State}
 use Rattle.device.specs.Follows.{Ended}
 use Rattle.device.specs.Halves.{wakening, Holds}
-use Rattle.device.specs.Server.{zeros}
+use Rattle.device.specs.Service.{zeros}
 use Rattle.device.proofs.Allowed.{length_zeros, zeros_zero}
-use Rattle.device.proofs.Telling.{woken}
+use Rattle.serving.proofs.Telling.{woken}
 use Rattle.jobs.specs.Layout.{home_words_lem, live_words}
 use Rattle.calls.specs.Sound.{sound_words}
 use Rattle.calls.proofs.Soundness.{zeros_sound}

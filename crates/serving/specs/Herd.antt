@@ -6,7 +6,8 @@ use Rattle.model.specs.Memory.{Memory}
 use Rattle.model.specs.Ways.{Ways}
 use Rattle.model.specs.Wire.{Bytes, Answer, Refused, Done, Runs, Shown}
 use Rattle.model.specs.Lines.{core_kind, answer_line, line_leaves, bytes_say, call_in, herd_on_lines}
-use Rattle.device.specs.Server.{Said, Server, ways_of, zeros, TellsOf, AwakeOf}
+use Rattle.device.specs.Service.{Said, Service, zeros}
+use Rattle.device.specs.Server.{Server, ways_of, TellsOf, AwakeOf}
 use Rattle.jobs.specs.Layout.{home_words_lem, live_words}
 use Rattle.jobs.specs.Tables.{state_of}
 use Rattle.calls.specs.declared.mind.Mind.{Mind}
@@ -49,6 +50,10 @@ pub record SaysTo (line : Bytes) (x : Held) (y : Said Bytes Held) (changed : Boo
   pub still : changed ≡ false → y.mind.home ≡ x.home
   -- what is refused, and what only shows, has changed nothing
   pub quiet : is_quiet (bytes_say core_kind (call_in line) (state_in x)).answer ≡ true → changed ≡ false
+
+-- what is said to one line, as the only thing that a service says: its stores are those of a call
+abbrev pub saying : Bool → Said Bytes Held → Service (Unit {0}) Bytes Held
+saying changed y = record { size = home_words_lem; home_of = λ x. x.home; wake_of = wakes_as; says = λ c x. y; keeps = λ c x. changed }
 
 abbrev pub herd_server : Server Bytes Bytes Held
 herd_server = record { size = home_words_lem; home_of = λ x. x.home; wake_of = wakes_as; Says = SaysTo }

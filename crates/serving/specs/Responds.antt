@@ -4,7 +4,7 @@ use Rattle.std.specs.Prelude.{◌≡◌, true}
 use Rattle.model.specs.Wire.{Bytes}
 use Rattle.model.specs.Lines.{core_kind, bytes_say}
 use Rattle.calls.specs.declared.answer.Answer.{Answer}
-use Rattle.calls.specs.Acted.{is_quiet}
+use Rattle.calls.specs.Handled.{is_quiet}
 use Rattle.calls.specs.Answers.{answer_of}
 use Rattle.serving.specs.Herd.{Held, state_in}
 

@@ -6,9 +6,9 @@ use Rattle.model.specs.Wire.{Bytes}
 use Rattle.model.specs.Lines.{core_kind, bytes_say, call_in, herd_on_lines}
 use Rattle.device.specs.Budget.{stores_in}
 use Rattle.device.specs.Follows.{FollowsTo}
-use Rattle.device.specs.Server.{Said, finishing, CallBudget}
-use Rattle.device.specs.Told.{GoesOn, DoesSo}
-use Rattle.serving.specs.Herd.{Held, state_in, is_quiet, SaysTo, herd_code, Tells, Awake}
+use Rattle.device.specs.Service.{Said, finishing, CallBudget}
+use Rattle.serving.specs.Herd.{Held, state_in, is_quiet, SaysTo, saying, herd_code, Tells, Awake}
+use Rattle.serving.specs.Told.{GoesOn, DoesSo}
 
 pub record Serves {V E : Type 0} (line : Bytes) (x : Held) (m : Memory) (r : Result V E) (y : Said Bytes Held) (n : Memory) : Type 0 where
   pub changed : Bool
@@ -21,4 +21,4 @@ pub record Serves {V E : Type 0} (line : Bytes) (x : Held) (m : Memory) (r : Res
   pub tells : DoesSo (herd_on_lines core_kind) herd_code Tells Awake line x m r y n
   -- a refusal and a showing store no word; a change stores no word twice, and one that is alone in place
   pub silent : is_quiet (bytes_say core_kind (call_in line) (state_in x)).answer ≡ true → stores_in (finishing changed y.mind.home y) m ≡ 0
-  pub budget : CallBudget changed y.mind.home y m
+  pub budget : CallBudget (saying changed y) (tt {0}) x m

@@ -1,9 +1,12 @@
 // The answer to a line, over kept words: the function that the programs call.
-ghost use Rattle.std.specs.Prelude.{◌≡◌, ℕ, not, List, take};
+ghost use Rattle.std.specs.Prelude.{◌≡◌, ℕ, ◌*◌, ◌<◌, not, List, length, slice_index, take};
 ghost use Rattle.model.specs.Lines.{core_kind, herd_on_lines};
 ghost use Rattle.model.specs.Ways.{RightWays, WaysRunRight};
-ghost use Rattle.calls.specs.Acted.{is_quiet};
+ghost use Rattle.calls.specs.Handled.{is_quiet};
+ghost use Rattle.device.specs.Follows.{Follows};
+ghost use Rattle.device.specs.Service.{keeping};
 ghost use Rattle.lines.specs.Held.{Holds};
+ghost use Rattle.lines.specs.Overlong.{AreBytes};
 ghost use Rattle.serving.specs.Herd.{Awake, Tells, held_by, herd_code};
 ghost use Rattle.serving.specs.Serves.{Serves};
 
@@ -25,6 +28,15 @@ fn changes(answer: &Answer) -> bool
     }
 }
 
+// Keeps the home words where they may have changed; and that each is of 64 bits is said here, where their type is at hand.
+fn keep_home<K: Kept>(words: &mut K, home: &[u64], changed: bool) -> Result<(), Dark>
+    requires { 2 * length home.now < 262144 }
+    ensures follows { Follows (keeping changed home.now) (K.word words.old) result (tt {0}) (K.word words.new) }
+    ensures small { (i : ℕ) → slice_index home.now i < 18446744073709551616 }
+{
+    keep(words, home, changed)
+}
+
 // Answers a line into the reply, and keeps what has changed; or the power fails in that, and there is no answer.
 pub fn answer<K: Kept>(
     words: &mut K,
@@ -34,9 +46,9 @@ pub fn answer<K: Kept>(
 ) -> Result<(), Dark>
     ensures right { RightWays (herd_on_lines core_kind) herd_code Tells Awake }
     ensures runs { WaysRunRight (herd_on_lines core_kind) herd_code }
-    ensures serves { (bytes : List ℕ) → Holds line.now.bytes line.now.count bytes → Serves bytes (held_by mind.old) (word words.old) result (record { reply = take reply.exit.now.len reply.exit.now.bytes; mind = held_by mind.new }) (word words.new) }
+    ensures serves { (bytes : List ℕ) → Holds line.now.bytes line.now.count bytes → AreBytes bytes → Serves bytes (held_by mind.old) (K.word words.old) result (record { reply = take reply.exit.now.len reply.exit.now.bytes; mind = held_by mind.new }) (K.word words.new) }
 {
     let said = respond(mind, line);
     write(reply, line.tag(), &mind.home, &mind.live, &said);
-    keep(words, &mind.home, changes(&said))
+    keep_home(words, &mind.home, changes(&said))
 }

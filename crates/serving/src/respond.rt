@@ -2,6 +2,7 @@
 ghost use Rattle.std.specs.Prelude.{◌≡◌, ℕ, List};
 ghost use Rattle.model.specs.Lines.{call_in};
 ghost use Rattle.lines.specs.Held.{Holds};
+ghost use Rattle.lines.specs.Overlong.{AreBytes};
 ghost use Rattle.serving.specs.Herd.{held_by};
 ghost use Rattle.serving.specs.Responds.{Responds};
 
@@ -13,7 +14,7 @@ use lines::read::read;
 
 // A line that is longer than is held is no call that could be done.
 pub fn respond<'a>(mind: &mut Mind, line: &'a Line) -> Answer<'a>
-    ensures { (bytes : List ℕ) → Holds line.now.bytes line.now.count bytes → Responds (call_in bytes) (held_by mind.old) result (held_by mind.new) }
+    ensures { (bytes : List ℕ) → Holds line.now.bytes line.now.count bytes → AreBytes bytes → Responds (call_in bytes) (held_by mind.old) result (held_by mind.new) }
 {
     if let Some(why) = barred(line.kind(), mind.time) {
         return Answer::TurnedAway(why);

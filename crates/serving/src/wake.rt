@@ -5,7 +5,7 @@ ghost use Rattle.model.specs.State.{State};
 ghost use Rattle.model.specs.Ways.{WaysRun};
 ghost use Rattle.model.specs.Wire.{Bytes};
 ghost use Rattle.device.specs.Follows.{Ended};
-ghost use Rattle.device.specs.Server.{zeros};
+ghost use Rattle.device.specs.Service.{zeros};
 ghost use Rattle.jobs.specs.Layout.{home_words_lem};
 ghost use Rattle.calls.specs.Sound.{sound_words};
 ghost use Rattle.serving.specs.Herd.{Awake, Tells, held_by, herd_code};
@@ -31,10 +31,10 @@ fn clear_unsound(home: &mut [u64]) -> bool
 
 // Any words wake as some mind; it only loads. False where the words are not sound: no herd stored them, and the mind is blank.
 pub fn wake<K: Kept>(words: &K, mind: &mut Mind) -> bool
-    ensures follows { Ended herd_code.wakes (word words.now) (held_by mind.new) (word words.now) }
-    ensures runs { (es : List (Happens Bytes Bytes)) → WaysRun herd_code es (asleep (word words.now)) → WaysRun herd_code es (awake (held_by mind.new) (word words.now)) }
-    ensures tells { (s : State) → Tells (word words.now) s → Awake (held_by mind.new) (word words.now) s }
-    ensures sound { (s : State) → Tells (word words.now) s → result ≡ true }
+    ensures follows { Ended herd_code.wakes (K.word words.now) (held_by mind.new) (K.word words.now) }
+    ensures runs { (es : List (Happens Bytes Bytes)) → WaysRun herd_code es (asleep (K.word words.now)) → WaysRun herd_code es (awake (held_by mind.new) (K.word words.now)) }
+    ensures tells { (s : State) → Tells (K.word words.now) s → Awake (held_by mind.new) (K.word words.now) s }
+    ensures sound { (s : State) → Tells (K.word words.now) s → result ≡ true }
 {
     halves::wake(words, &mut mind.home);
     let sound = clear_unsound(&mut mind.home);

@@ -1,4 +1,4 @@
-use Rattle.std.proofs.Common.{◌≡◌, length, rules}
+use Rattle.std.proofs.Common.{◌≡◌, length, rules, arith}
 use Rattle.serving.specs.Herd.{held_by}
 use Rattle.serving.proofs.Standing.{herd_right, herd_runs}
 use Rattle.serving.proofs.Answering.{serves}
@@ -11,6 +11,6 @@ returns g c =
     record {
       right = herd_right;
       runs = herd_runs;
-      serves = λ bytes h. serves bytes (held_by c.args.mind.now) (held_by mind) c.respond-said.result _ c.tag.result c.changes.result _ _ c.keep.result
-          (c.respond-said.ensures bytes h) (c.tag.ensures bytes h) (c.write.ensures.bytes mind.time) c.changes.ensures long mind.sound c.keep.ensures.small c.keep.ensures.follows;
+      serves = λ bytes h u. serves bytes (held_by c.args.mind.now) (held_by mind) c.respond-said.result _ c.tag.result c.changes.result _ _ c.keep_home.result
+          (c.respond-said.ensures bytes h u) (c.tag.ensures bytes h) (c.write.ensures.bytes mind.time) c.changes.ensures long mind.sound c.keep_home.ensures.small c.keep_home.ensures.follows;
     }

@@ -6,7 +6,7 @@ use Rattle.serving.proofs.wake.clear_unsound.Goals as goal
 pub returns-then-not-sound : goal.returns-then-not-sound
 returns-then-not-sound c =
     let long : length c.clear.new.words ≡ 68104 = search rules in
-    record { sound = c.is-sound-sound.ensures; words = cleared 68104 c.clear.new.words long c.clear.ensures ∙ sym (cond-false _ _ _ (sym c.is-sound-sound.ensures ∙ c.if-not-sound.true)) }
+    record { sound = c.is_sound-sound.ensures; words = cleared 68104 c.clear.new.words long c.clear.ensures ∙ sym (cond-false _ _ _ (sym c.is_sound-sound.ensures ∙ c.if-not-sound.true)) }
 
 pub returns-else-not-sound : goal.returns-else-not-sound
-returns-else-not-sound c = record { sound = c.is-sound-sound.ensures; words = sym (cond-true _ _ _ (sym c.is-sound-sound.ensures ∙ c.if-not-sound.false)) }
+returns-else-not-sound c = record { sound = c.is_sound-sound.ensures; words = sym (cond-true _ _ _ (sym c.is_sound-sound.ensures ∙ c.if-not-sound.false)) }
