@@ -1,10 +1,10 @@
 -- Answers, written and read back.
 -- Assumes nothing.
-use Rattle.std.proofs.Common.{◌≡◌, ℕ, suc, ◌+◌, ◌-◌, ◌*◌, ◌^◌, ◌<◌, ◌≤◌, Bool, true, false, cond, ◌&&◌, eqb, ltb, leb, List, [], ◌∷◌, ◌++◌, length, get_or, take, drop, sym, refl, ap, ◌∙◌, append_assoc, arith, length-append, drop-drop}
-use Rattle.std.proofs.lemmas.Bool.{eq-eqb, ne_eqb, lt-ltb, le-ltb, le-leb, true≢false}
-use Rattle.model.specs.Calls.{Seen, Order, Line}
-use Rattle.model.specs.Wire.{Bytes, Read, garbled, meant, bytes_of, field, Answer, Refused, Done, Runs, Shown, answer_bytes}
-use Rattle.model.specs.Lines.{framed, tag_in, call_in}
+use Rattle.std.proofs.Common.{◌≡◌, ℕ, ◌+◌, Bool, true, false, cond, eqb, ltb, List, ◌++◌, length, drop, sym, refl, ap, arith}
+use Rattle.std.proofs.lemmas.Bool.{eq-eqb, le-ltb, true≢false}
+use Rattle.model.specs.Calls.{Line}
+use Rattle.model.specs.Wire.{garbled, meant, bytes_of, field, Refused, Done, Runs, Shown}
+use Rattle.model.specs.Lines.{framed}
 use Rattle.model.specs.Answers.{is_runs, NoOtherRuns, NoReportRuns, FrameBack}
 use Rattle.agents.proofs.Fields.{field_front, field_at, drop_front, drop_next, length_front}
 

@@ -1,13 +1,12 @@
 -- Carrying out what is stopped and started.
 -- Assumes nothing.
 use Rattle.std.proofs.Common.{◌≡◌, ℕ, Bool, true, false, cond, not, ◌&&◌, ◌||◌, eqb, ◌⊎◌, List, [], ◌∷◌, ◌++◌, map, sym, refl, ap, ◌∙◌, inl, inr}
-use Rattle.std.specs.List.{flat_map}
 use Rattle.std.proofs.lemmas.Bool.{eqb-true, true≢false}
 use Rattle.model.specs.Lists.{some, keep, find}
 use Rattle.model.specs.Calls.{Seen, Order}
 use Rattle.model.specs.World.{is_order, is_seen}
 use Rattle.agents.specs.Memory.{Deed, stop, start}
-use Rattle.agents.specs.Moves.{kept, started_one, started, stop_for, start_for, stops_for, starts_for, deeds_for}
+use Rattle.agents.specs.Moves.{kept, started, stop_for, start_for, stops_for, starts_for, deeds_for}
 use Rattle.agents.specs.Carried.{did, carried, Carries, CarriedOut}
 
 carried_append : (ds es : List Deed) (f : ℕ → Bool) → carried (ds ++ es) f ≡ carried es (carried ds f)

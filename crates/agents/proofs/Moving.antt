@@ -1,12 +1,12 @@
 -- What moves make of what runs.
 -- Assumes nothing.
-use Rattle.std.proofs.Common.{◌≡◌, ℕ, ◌+◌, ◌-◌, ◌<◌, ◌≤◌, Bool, true, false, cond, ◌&&◌, eqb, List, [], ◌∷◌, ◌++◌, map, length, get_or, drop, sym, refl, ap, ◌∙◌, arith}
+use Rattle.std.proofs.Common.{◌≡◌, ℕ, ◌+◌, ◌-◌, ◌<◌, ◌≤◌, Bool, true, false, cond, ◌&&◌, eqb, List, [], ◌∷◌, map, length, get_or, drop, sym, refl, ap, ◌∙◌, arith}
 use Rattle.std.proofs.lemmas.List.{drop_all, drop_more}
 use Rattle.std.proofs.lemmas.Bool.{eq-eqb, ne_eqb}
-use Rattle.model.specs.Lists.{some, keep, find}
+use Rattle.model.specs.Lists.{some, find}
 use Rattle.model.specs.Calls.{Seen, Order}
 use Rattle.model.specs.World.{is_order, is_seen, is_ready_in}
-use Rattle.agents.specs.Memory.{orders_of, Deed, stop, start}
+use Rattle.agents.specs.Memory.{orders_of, stop, start}
 use Rattle.agents.specs.Moves.{started_one, started, stop_for, start_for}
 use Rattle.agents.specs.declared.order.Order as code
 use Rattle.agents.proofs.Lists.{some_hit, some_skip}

@@ -1,16 +1,16 @@
 -- An agent's moves, as steps of the world.
 -- Assumes nothing.
-use Rattle.std.proofs.Common.{◌≡◌, ℕ, ◌<◌, Bool, true, false, cond, not, T, eqb, List, [], ◌∷◌, ◌++◌, sym, refl, ap, ◌∙◌, subst}
+use Rattle.std.proofs.Common.{◌≡◌, ℕ, Bool, true, false, cond, not, T, eqb, List, [], ◌∷◌, sym, refl, ap, ◌∙◌, subst}
 use mathlib.Core.Path.{fun_ext}
 use mathlib.Core.List.{Memᴰ}
 use Rattle.std.proofs.lemmas.Bool.{eq-eqb, eqb-true}
 use Rattle.model.specs.Lists.{some}
 use Rattle.model.specs.Calls.{Seen, Order}
-use Rattle.model.specs.World.{Agent, World, Back, Step, Reach, is_seen, put, with_agent, running, obeys, reported}
+use Rattle.model.specs.World.{Agent, World, Back, Step, Reach, is_seen, put, with_agent, running, obeys}
 use Rattle.model.proofs.Lists.Tests.{from_true}
-use Rattle.agents.specs.Moves.{started_one, started}
-use Rattle.agents.specs.Steps.{starting, Marked, Gone}
-use Rattle.agents.specs.Worlds.{MovesReach, AllMovesReach}
+use Rattle.agents.specs.Moves.{started}
+use Rattle.agents.specs.Steps.{starting}
+use Rattle.agents.specs.Worlds.{AllMovesReach}
 
 put_at : (i : ℕ) (a : Agent) (f : ℕ → Agent) → put i a f i ≡ a
 put_at i a f = ap (λ (b : Bool). cond b a (f i)) (eq-eqb i i refl)

@@ -1,13 +1,13 @@
 -- Orders, written and read back.
 -- Assumes nothing.
-use Rattle.std.proofs.Common.{◌≡◌, ℕ, zero, suc, ◌+◌, ◌-◌, ◌*◌, ◌^◌, ◌<◌, ◌≤◌, Bool, true, false, cond, ◌&&◌, eqb, ltb, leb, List, [], ◌∷◌, ◌++◌, length, get_or, take, drop, sym, refl, ap, ◌∙◌, append_assoc, arith, length-append, drop-drop, ltb-true, leb-true}
+use Rattle.std.proofs.Common.{◌≡◌, ℕ, ◌+◌, ◌*◌, ◌≤◌, Bool, true, false, ◌&&◌, eqb, ltb, leb, List, [], ◌∷◌, ◌++◌, length, drop, sym, refl, ap, ◌∙◌, append_assoc, arith, length-append, drop-drop, ltb-true, leb-true}
 use Rattle.std.proofs.lemmas.List.{drop_at}
-use Rattle.std.proofs.lemmas.Bool.{and_parts, le-leb, eq-eqb}
+use Rattle.std.proofs.lemmas.Bool.{and_parts, le-leb}
 use Rattle.model.specs.Lists.{every}
 use Rattle.model.specs.State.{Spec}
 use Rattle.model.specs.Calls.{Order, small}
-use Rattle.model.specs.Wire.{Bytes, meant, bytes_of, field, byte_at, flag_of, tags_in_lem, spec_in_lem, tag_bytes, spec_bytes, order_bytes, Runs, answer_bytes}
-use Rattle.model.specs.Answers.{tags_at, order_width, order_in, is_order_in, orders_in_lem, are_orders_in, read_runs, long, spec_fits, order_fits, RunsBack}
+use Rattle.model.specs.Wire.{Bytes, bytes_of, field, byte_at, flag_of, tags_in_lem, spec_in_lem, tag_bytes, spec_bytes, order_bytes}
+use Rattle.model.specs.Answers.{tags_at, order_width, order_in, is_order_in, orders_in_lem, are_orders_in, long, spec_fits, order_fits, RunsBack}
 use Rattle.agents.proofs.Fields.{field_front, field_at, drop_front, drop_next, byte_at_lem, length_front}
 use Rattle.agents.proofs.Orders.{order_fits_lem}
 

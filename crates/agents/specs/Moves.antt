@@ -1,11 +1,10 @@
 -- What an agent's moves come to: what runs then, and what is stopped and started for it.
 -- Assumes nothing.
-use Rattle.std.specs.Prelude.{◌≡◌, ℕ, ◌<◌, Bool, true, false, cond, not, ◌&&◌, List, [], ◌∷◌, ◌++◌, map, length, Some, None, Option, slice_index_or}
+use Rattle.std.specs.Prelude.{◌≡◌, ℕ, ◌<◌, false, cond, List, [], ◌∷◌, ◌++◌, map, length, Some, None, Option, slice_index_or}
 use Rattle.std.specs.List.{flat_map}
 use Rattle.model.specs.Lists.{some, keep, find}
 use Rattle.model.specs.Calls.{Seen, Order}
-use Rattle.model.specs.World.{Agent, is_order, is_seen, obeys, running}
-use Rattle.model.specs.Wire.{Read, garbled, meant, Answer, Refused, Done, Runs, Shown}
+use Rattle.model.specs.World.{is_order, is_seen}
 use Rattle.agents.specs.Memory.{order_of, seens_of, Deed, stop, start}
 use Rattle.agents.specs.declared.order.Order as code
 use Rattle.agents.specs.declared.order.Seen as codeSeen

@@ -1,6 +1,6 @@
 -- What text says to an agent.
 -- Assumes nothing.
-use Rattle.std.specs.Prelude.{◌≡◌, ℕ, List, ◌∷◌, Some, None, vec_items, Option}
+use Rattle.std.specs.Prelude.{◌≡◌, ℕ, ◌∷◌, Some, None, vec_items, Option}
 use Rattle.model.specs.Wire.{Bytes, Read, garbled, meant}
 use Rattle.lines.specs.Resume.{number_in}
 use Rattle.lines.specs.Text.{Text, decimal_on}

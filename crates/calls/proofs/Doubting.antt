@@ -1,6 +1,6 @@
 -- What the time makes of tasks.
 -- Assumes nothing.
-use Rattle.std.proofs.Common.{◌≡◌, ℕ, Bool, true, false, cond, not, ◌&&◌, List, [], ◌∷◌, ◌++◌, map, sym, refl, ap, ◌∙◌}
+use Rattle.std.proofs.Common.{◌≡◌, ℕ, true, false, not, ◌&&◌, List, [], ◌∷◌, ◌++◌, map, sym, refl, ap}
 use Rattle.std.proofs.lemmas.Bool.{and_parts, true≢false}
 use Rattle.model.specs.Lists.{some}
 use Rattle.model.specs.State.{Machine, Task, Phase, Waiting, Told, Ready, Ending, is_ready_lem}

@@ -1,8 +1,8 @@
 -- What a report makes of one task, case by case.
 -- Assumes nothing.
-use Rattle.std.proofs.Common.{◌≡◌, ℕ, Bool, true, false, cond, not, ◌&&◌, eqb, List, [], ◌∷◌, ◌++◌, sym, refl, ap, ◌∙◌, inl, inr, append_assoc, arith}
+use Rattle.std.proofs.Common.{◌≡◌, ℕ, Bool, true, false, cond, not, ◌&&◌, eqb, List, [], ◌∷◌, ◌++◌, sym, refl, inl, inr, append_assoc}
 use Rattle.std.proofs.lemmas.Bool.{eq-eqb, ne_eqb, true≢false, cases_Bool}
-use Rattle.model.specs.State.{Task, Phase, Waiting, Told, Ready, Ending, is_waiting, is_ending, phased}
+use Rattle.model.specs.State.{Task, Phase, Waiting, Told, Ready, Ending, is_waiting, is_ending}
 use Rattle.model.specs.Calls.{Seen, seen_as, heard_of_lem, heard_all}
 use Rattle.jobs.specs.Changes.{mark_each, marked_phase}
 use Rattle.calls.proofs.Sweep.{Each}

@@ -1,11 +1,10 @@
 -- Looking through the tasks of a report.
 -- Assumes nothing.
-use Rattle.std.proofs.Common.{◌≡◌, ℕ, zero, suc, ◌+◌, ◌-◌, ◌*◌, ◌/◌, ◌<◌, ◌≤◌, Bool, true, false, cond, eqb, List, [], ◌∷◌, length, get_or, drop, Some, None, sym, refl, ap, ◌∙◌, arith, get_or-drop, drop-drop}
+use Rattle.std.proofs.Common.{◌≡◌, ℕ, suc, ◌+◌, ◌-◌, ◌*◌, ◌<◌, ◌≤◌, eqb, [], ◌∷◌, get_or, drop, sym, arith, get_or-drop, drop-drop}
 use Rattle.std.proofs.lemmas.Bool.{eq-eqb, ne_eqb}
 use Rattle.model.specs.Lists.{find}
 use Rattle.model.specs.Calls.{Seen, seen_as}
-use Rattle.model.specs.Wire.{Bytes, field, byte_at, seens_in}
-use Rattle.calls.specs.Seen.{SeenAs}
+use Rattle.model.specs.Wire.{Bytes, field, seens_in}
 
 -- the task at a place of the report
 abbrev pub task_in : ℕ → Bytes → Seen

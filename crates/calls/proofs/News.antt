@@ -1,6 +1,6 @@
 -- A report is refused, or is news.
 -- Assumes nothing.
-use Rattle.std.proofs.Common.{◌≡◌, ℕ, zero, suc, ◌+◌, ◌/◌, Bool, true, false, cond, ◌&&◌, ◌||◌, eqb, ltb, leb, List, [], ◌∷◌, length, drop, sym, refl, ap, ◌∙◌, arith}
+use Rattle.std.proofs.Common.{◌≡◌, ℕ, zero, suc, ◌/◌, true, false, cond, [], ◌∷◌, length, drop, refl, ap, ◌∙◌}
 use Rattle.model.specs.Lists.{find}
 use Rattle.model.specs.State.{Machine, State, is_machine}
 use Rattle.model.specs.Settle.{settle}

@@ -1,6 +1,6 @@
 -- What is news, over the words: tasks are heard, then their machine, then a pass begins.
 -- Assumes nothing.
-use Rattle.std.proofs.Common.{◌≡◌, ℕ, ◌+◌, ◌<◌, ◌≤◌, min, Bool, true, List, [], ◌∷◌, map, length, sym, refl, ap, ◌∙◌, subst, arith}
+use Rattle.std.proofs.Common.{◌≡◌, ℕ, ◌+◌, ◌<◌, ◌≤◌, List, map, length, sym, refl, ap, ◌∙◌, subst, arith}
 use Rattle.model.specs.Lists.{find, change}
 use Rattle.model.specs.State as s
 use Rattle.model.specs.State.{is_machine, with_tasks, with_machines}

@@ -1,6 +1,6 @@
 -- What a call leaves and answers, over the words.
 -- Assumes nothing.
-use Rattle.std.proofs.Common.{◌≡◌, ℕ, Bool, true, false, List, [], ◌∷◌, sym, refl, ap, ◌∙◌, subst, arith}
+use Rattle.std.proofs.Common.{◌≡◌, ℕ, List, sym, refl, ap, ◌∙◌, subst}
 use Rattle.std.proofs.lemmas.Bool.{true≢false}
 use Rattle.model.specs.Lists.{keep}
 use Rattle.model.specs.State.{State, on_machine}
@@ -8,11 +8,11 @@ use Rattle.model.specs.Calls as m
 use Rattle.model.specs.Wire as w
 use Rattle.jobs.specs.Tables.{state_of}
 use Rattle.calls.specs.declared.answer.Refusal.{Refusal}
-use Rattle.calls.specs.declared.answer.Answer.TheVariants.{TurnedAway, Yes, Run, Lines}
+use Rattle.calls.specs.declared.answer.Answer.TheVariants.{TurnedAway, Yes, Run}
 use Rattle.calls.specs.declared.call.Call.TheVariants.{Report}
 use Rattle.calls.specs.declared.call.Reported.{Reported}
 use Rattle.calls.specs.Acted.{Acted}
-use Rattle.calls.specs.Answers.{number_of, answer_of}
+use Rattle.calls.specs.Answers.{number_of}
 use Rattle.calls.specs.Meaning.{call_of}
 
 -- it was refused, and nothing has changed

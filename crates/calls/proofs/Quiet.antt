@@ -1,6 +1,6 @@
 -- What isn't a showing isn't answered by one: where its answer says that nothing has changed, it was refused.
 -- Assumes nothing.
-use Rattle.std.proofs.Common.{◌≡◌, ℕ, true, false, List, refl}
+use Rattle.std.proofs.Common.{◌≡◌, ℕ, List, refl}
 use Rattle.model.specs.State.{Spec, State}
 use Rattle.model.specs.Calls as m
 use Rattle.model.specs.Wire as w
@@ -8,7 +8,7 @@ use Rattle.model.proofs.Acts.Outcomes.{Must, acts_is}
 use Rattle.calls.specs.declared.answer.Answer.{Answer}
 use Rattle.calls.specs.declared.answer.Answer.TheVariants.{TurnedAway, Yes, Run, Lines}
 use Rattle.calls.specs.Acted.{Acted}
-use Rattle.calls.specs.Handled.{is_quiet, Performed}
+use Rattle.calls.specs.Handled.{Performed}
 use Rattle.jobs.specs.Tables.{state_of}
 
 -- it is not what a showing is answered with

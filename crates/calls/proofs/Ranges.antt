@@ -1,14 +1,13 @@
 -- The tests of what is wanted, part by part.
 -- Assumes nothing.
-use Rattle.std.proofs.Common.{◌≡◌, ℕ, zero, suc, ◌+◌, ◌-◌, ◌*◌, ◌/◌, ◌%◌, ◌^◌, ◌<◌, ◌≤◌, Bool, true, false, ◌&&◌, ◌||◌, eqb, ltb, leb, ◌⊎◌, List, [], ◌∷◌, ◌++◌, length, get_or, take, drop, sym, refl, ap, ◌∙◌, subst, inl, inr, arith}
-use Rattle.std.proofs.lemmas.List.{get_or-take, length-take}
-use Rattle.std.proofs.lemmas.Bool.{lt-ltb, le-ltb, le-leb, lt-leb, and_from, and_left, and_right}
+use Rattle.std.proofs.Common.{◌≡◌, ℕ, zero, suc, ◌<◌, ◌≤◌, Bool, true, false, ◌&&◌, ltb, leb, ◌⊎◌, List, [], ◌∷◌, length, get_or, take, drop, sym, refl, ap, ◌∙◌, subst, inl, inr, arith}
+use Rattle.std.proofs.lemmas.Bool.{lt-ltb, le-leb}
 use Rattle.std.proofs.lemmas.Bool.Decides.{nat_tests}
 use Rattle.model.specs.Lists.{every}
 use Rattle.model.specs.State as s
 use Rattle.model.specs.Calls.{small, spec_ok_lem, job_ok}
 use Rattle.model.specs.Wire.{Bytes, tags_in_lem}
-use Rattle.jobs.specs.Tables.{byte_at, bytes_of}
+use Rattle.jobs.specs.Tables.{bytes_of}
 use Rattle.jobs.proofs.Names.{length_bytes, get_d_bytes}
 use Rattle.calls.specs.Wanted.{name_ok}
 

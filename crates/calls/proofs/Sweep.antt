@@ -1,6 +1,6 @@
 -- All rows of tasks in turn, each changed by itself: the list is then changed as a whole.
 -- Assumes nothing.
-use Rattle.std.proofs.Common.{◌≡◌, ℕ, ◌+◌, ◌<◌, ◌≤◌, min, List, [], ◌∷◌, ◌++◌, length, sym, refl, ap, ◌∙◌, subst, arith}
+use Rattle.std.proofs.Common.{◌≡◌, ℕ, ◌+◌, ◌<◌, ◌≤◌, min, List, [], ◌++◌, sym, refl, ap, ◌∙◌, arith}
 use Rattle.model.specs.State as s
 use Rattle.jobs.specs.Rows.{at, span}
 use Rattle.jobs.specs.Tables.{task_at, task_rows_lem, tasks_of, TasksOnly, TaskPut, TasksNow}

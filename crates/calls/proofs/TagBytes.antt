@@ -1,7 +1,7 @@
 -- Tags, read one by one.
 -- Assumes nothing.
-use Rattle.std.proofs.Common.{◌≡◌, ℕ, zero, suc, ◌+◌, ◌*◌, ◌^◌, ◌<◌, ◌≤◌, Bool, true, false, ◌&&◌, List, [], ◌∷◌, ◌++◌, length, get_or, take, drop, set, sym, refl, ap, ◌∙◌, add-one, arith, drop-drop, take-suc-set}
-use Rattle.model.specs.Wire.{Bytes, field, value_of, tags_in_lem}
+use Rattle.std.proofs.Common.{◌≡◌, ℕ, zero, suc, ◌+◌, ◌*◌, ◌<◌, List, [], ◌∷◌, ◌++◌, length, take, drop, set, sym, refl, ap, ◌∙◌, add-one, arith, drop-drop, take-suc-set}
+use Rattle.model.specs.Wire.{Bytes, field, tags_in_lem}
 
 tags_push : (a : ℕ) (bs : Bytes) → tags_in_lem (suc a) bs ≡ tags_in_lem a bs ++ (field 4 (4 * a) bs ∷ [])
 unfolding tags_in_lem

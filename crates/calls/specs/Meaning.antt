@@ -5,9 +5,6 @@ use Rattle.model.specs.State as s
 use Rattle.model.specs.Calls as m
 use Rattle.model.specs.Wire.{tags_in_lem, seens_in}
 use Rattle.calls.specs.declared.call.Likeness.{Likeness}
-use Rattle.calls.specs.declared.call.Wanted.{Wanted}
-use Rattle.calls.specs.declared.call.Added.{Added}
-use Rattle.calls.specs.declared.call.Reported.{Reported}
 use Rattle.calls.specs.declared.call.Call.{Call}
 use Rattle.calls.specs.declared.call.Call.TheVariants.{Set, End, Add, Close, Reopen, Forget, Report, Time, Show}
 

@@ -3,7 +3,7 @@
 use Rattle.std.specs.Prelude.{◌≡◌, ℕ, List, length, Some, None, Option}
 use Rattle.model.specs.State as s
 use Rattle.model.specs.State.{with_jobs}
-use Rattle.model.specs.Calls.{Call, Out, SetJob, acts, no, sets_job, yes'}
+use Rattle.model.specs.Calls.{Call, Out, SetJob, no, sets_job, yes'}
 use Rattle.jobs.specs.Tables.{state_of}
 use Rattle.calls.specs.declared.answer.Refusal.{Refusal}
 use Rattle.calls.specs.declared.call.Wanted.{Wanted}

@@ -1,8 +1,7 @@
 -- What telling the time makes of the words.
 -- Assumes nothing.
-use Rattle.std.specs.Prelude.{◌≡◌, ℕ, List, Some, None, Option}
+use Rattle.std.specs.Prelude.{ℕ, List, Some, None, Option}
 use Rattle.model.specs.Calls.{Tick}
-use Rattle.jobs.specs.Tables.{state_of}
 use Rattle.calls.specs.declared.answer.Refusal.TheVariants.{Malformed}
 use Rattle.calls.specs.declared.answer.Answer.TheVariants.{TurnedAway, Yes}
 use Rattle.calls.specs.Acted.{Acted}

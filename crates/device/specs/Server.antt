@@ -1,7 +1,7 @@
 -- A SERVER: a service that is free in which home words a mind has, as one that keeps rows is. What it may say to a call is a relation.
 -- Assumes nothing.
 use Rattle.std.specs.Prelude.{◌≡◌, ℕ, ◌*◌, ◌<◌, Bool, false, List, length, slice_index}
-use Rattle.model.specs.Memory.{Memory, words, Doing, done, Meant}
+use Rattle.model.specs.Memory.{Memory, words, done, Meant}
 use Rattle.model.specs.Ways.{Ways}
 use Rattle.device.specs.Follows.{and_then}
 use Rattle.device.specs.Halves.{wakening, Holds}

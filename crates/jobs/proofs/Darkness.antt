@@ -1,14 +1,14 @@
 -- What the dark takes, what there is at first, and sums over jobs.
 -- Assumes nothing.
-use Rattle.std.proofs.Common.{◌≡◌, ℕ, zero, suc, ◌+◌, ◌-◌, ◌*◌, ◌%◌, ◌<◌, ◌≤◌, min, Bool, true, false, cond, not, eqb, ◌⊎◌, List, [], ◌∷◌, ◌++◌, map, length, get_or, set, sym, refl, ap, ◌∙◌, subst, inl, inr, arith}
+use Rattle.std.proofs.Common.{◌≡◌, ℕ, ◌+◌, ◌%◌, ◌<◌, ◌≤◌, min, Bool, true, false, cond, not, eqb, List, [], ◌∷◌, ◌++◌, map, length, set, sym, refl, ap, ◌∙◌, inl, inr, arith}
 use Rattle.std.proofs.lemmas.Bool.{cases_Bool, cases_eq, cases_lt}
 use Rattle.std.proofs.lemmas.List.{get_or-set_same, get_or-set_other, get_or_past}
-use Rattle.model.specs.Lists.{keep, same}
+use Rattle.model.specs.Lists.{keep}
 use Rattle.model.specs.State as s
 use Rattle.model.specs.State.{blank, is_job}
 use Rattle.model.specs.Calls.{down, unheard, unready, all_most, others}
 use Rattle.jobs.specs.Rows.{at, span}
-use Rattle.jobs.specs.Tables.{phase_from_lem, task_from, task_slot, task_at, task_row_lem, task_rows_lem, tasks_of, machine_from, machine_slot, machine_at, machine_row_lem, machine_rows_lem, machines_of, job_at, job_from_lem, job_slot, jobs_of, state_of}
+use Rattle.jobs.specs.Tables.{task_from, task_slot, task_at, task_row_lem, task_rows_lem, tasks_of, machine_slot, machine_at, machine_row_lem, machine_rows_lem, machines_of, job_at, job_from_lem, job_slot, jobs_of, state_of}
 use Rattle.jobs.proofs.Spans.{span_none, span_same, span_more}
 use Rattle.jobs.proofs.MoveLaws.{span_map}
 use Rattle.jobs.proofs.Finds.{slot_hole, slot_full}

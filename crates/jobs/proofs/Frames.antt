@@ -1,14 +1,14 @@
 -- What a change of tasks leaves alone.
 -- Assumes nothing.
-use Rattle.std.proofs.Common.{◌≡◌, ℕ, suc, ◌+◌, ◌-◌, ◌*◌, ◌<◌, ◌≤◌, min, ◌⊎◌, List, [], ◌∷◌, ◌++◌, length, get_or, take, drop, sym, refl, ap, ◌∙◌, inl, inr, arith}
-use Rattle.std.proofs.lemmas.Bool.{cases_eq, cases_lt}
+use Rattle.std.proofs.Common.{◌≡◌, ℕ, ◌+◌, ◌-◌, ◌*◌, ◌<◌, ◌≤◌, min, List, ◌++◌, length, take, drop, refl, ap, ◌∙◌, inl, inr, arith}
+use Rattle.std.proofs.lemmas.Bool.{cases_lt}
 use Rattle.model.specs.State as s
 use Rattle.model.specs.State.{with_tasks}
 use Rattle.jobs.specs.Layout.{home_words_lem, task_base}
-use Rattle.jobs.specs.Rows.{at, row_at, span, Only}
+use Rattle.jobs.specs.Rows.{at, span, Only}
 use Rattle.jobs.specs.Tables.{task_at, task_row_lem, task_rows_lem, tasks_of, task_slot, job_at, job_row_lem, job_rows_lem, jobs_of, job_slot, machine_at, machine_row_lem, machine_rows_lem, machines_of, machine_slot, state_of, TasksOnly, TaskPut, tasks_before, tasks_behind}
 use Rattle.jobs.proofs.Spans.{span_same, span_at}
-use Rattle.jobs.proofs.Words.{row_same, row_before, only_row}
+use Rattle.jobs.proofs.Words.{row_same, only_row}
 
 module _ (home live home' live' : List ℕ) (fits : home_words_lem ≤ length home) (f : TasksOnly home live home' live') where
   part_same : (o w : ℕ) → 4 ≤ o → o + w ≤ task_base → take w (drop o home') ≡ take w (drop o home)

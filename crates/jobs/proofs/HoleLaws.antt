@@ -1,12 +1,11 @@
 -- Closing holes: rows move down, the entries stay.
 -- Assumes nothing.
-use Rattle.std.proofs.Common.{◌≡◌, ℕ, zero, suc, ◌+◌, ◌-◌, ◌*◌, ◌<◌, ◌≤◌, Bool, true, false, cond, eqb, ◌⊎◌, List, [], ◌∷◌, ◌++◌, length, get_or, take, drop, set, sym, refl, ap, ◌∙◌, subst, inl, inr, add-mul, arith}
+use Rattle.std.proofs.Common.{◌≡◌, ℕ, ◌+◌, ◌*◌, ◌<◌, ◌≤◌, true, false, cond, eqb, List, [], ◌∷◌, ◌++◌, length, drop, set, sym, refl, ap, ◌∙◌, inl, inr, arith}
 use borrow.Rule.Slice.PartMut.{put_mid}
-use Rattle.std.proofs.lemmas.Nat.{mul-le}
 use Rattle.std.proofs.lemmas.List.{ext_get_or, length-take, length-drop, get_or-take, get_or-drop, get_or-set_same, get_or-set_other, length-set, append-nil, length-append}
 use Rattle.std.proofs.lemmas.Bool.{eq-eqb, ne_eqb, cases_eq, cases_lt}
 use Rattle.jobs.specs.Rows.{at, row_at, span, Only, WordsPut, Moved, Entry, entry_at, Closed}
-use Rattle.jobs.proofs.Words.{row_before, only_row, only_none, only_wide, only_then, put_only, put_row_lem, set_only}
+use Rattle.jobs.proofs.Words.{row_before, only_row, only_none, only_wide, only_then, put_only, put_row_lem}
 use Rattle.jobs.proofs.Spans.{span_none, span_more, span_same}
 
 pub puts_words : (p k : ℕ) (ws r : List ℕ) → k ≡ length r → p + length r ≤ length ws → WordsPut p r ws (put_mid p k ws r)

@@ -1,15 +1,15 @@
 -- Jobs in their rows.
 -- Assumes nothing.
-use Rattle.std.proofs.Common.{◌≡◌, ℕ, zero, suc, ◌+◌, ◌-◌, ◌*◌, ◌<◌, ◌≤◌, min, Bool, true, false, cond, eqb, ◌⊎◌, List, [], ◌∷◌, ◌++◌, length, get_or, take, drop, set, sym, refl, ap, ◌∙◌, subst, inl, inr, arith}
-use Rattle.std.proofs.lemmas.Bool.{cases_Bool, eq-eqb, ne_eqb, cases_lt}
-use Rattle.std.proofs.lemmas.List.{get_or-set_same, get_or-take, get_or-drop, get_or-replicate}
+use Rattle.std.proofs.Common.{◌≡◌, ℕ, ◌+◌, ◌*◌, ◌<◌, ◌≤◌, min, List, [], ◌∷◌, ◌++◌, length, take, drop, set, sym, refl, ap, ◌∙◌, subst, inl, inr, arith}
+use Rattle.std.proofs.lemmas.Bool.{cases_lt}
+use Rattle.std.proofs.lemmas.List.{get_or-set_same, get_or-take, get_or-drop}
 use Rattle.model.specs.State as s
 use Rattle.model.specs.State.{with_jobs}
 use Rattle.jobs.specs.Layout.{home_words_lem}
-use Rattle.jobs.specs.Rows.{at, row_at, span, Only, WordsPut, Closed}
+use Rattle.jobs.specs.Rows.{at, span, Only, WordsPut, Closed}
 use Rattle.jobs.specs.Tables.{job_at, job_from_lem, job_slot, job_row_lem, job_rows_lem, jobs_of, jobs_with, state_of, JobsNow}
 use Rattle.jobs.proofs.Finds.{slot_hole, slot_full}
-use Rattle.jobs.proofs.Words.{only_row, set_only, only_wide, set_row, row_length}
+use Rattle.jobs.proofs.Words.{only_row, set_only, only_wide}
 use Rattle.jobs.proofs.TableLaws.{put_list_lem, push_list, Apart, apart_only, apart_set, jobs_state}
 use Rattle.jobs.proofs.MoveLaws.{closed_list}
 

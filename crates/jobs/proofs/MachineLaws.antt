@@ -1,15 +1,15 @@
 -- Machines in their rows.
 -- Assumes nothing.
-use Rattle.std.proofs.Common.{◌≡◌, ℕ, zero, suc, ◌+◌, ◌-◌, ◌*◌, ◌<◌, ◌≤◌, min, Bool, true, false, cond, eqb, ◌⊎◌, List, [], ◌∷◌, ◌++◌, map, length, get_or, take, drop, set, sym, refl, ap, ◌∙◌, subst, inl, inr, arith}
+use Rattle.std.proofs.Common.{◌≡◌, ℕ, ◌+◌, ◌*◌, ◌<◌, ◌≤◌, min, Bool, true, false, eqb, List, [], ◌∷◌, ◌++◌, map, length, take, drop, set, sym, refl, ap, ◌∙◌, subst, inl, inr, arith}
 use borrow.Rule.Slice.PartMut.{put_mid}
 use mir.Val.{bool_byte}
-use Rattle.std.proofs.lemmas.Bool.{cases_Bool, eq-eqb, ne_eqb, cases_lt, cases_eq}
+use Rattle.std.proofs.lemmas.Bool.{cases_Bool, cases_lt}
 use Rattle.std.proofs.lemmas.List.{get_or-set_same, get_or-set_other, get_or-take, get_or-drop, drop-set-lt, length-set}
 use Rattle.model.specs.State as s
 use Rattle.model.specs.State.{with_machines}
 use Rattle.model.specs.Calls.{opened, heard_from}
 use Rattle.jobs.specs.Layout.{home_words_lem, live_words}
-use Rattle.jobs.specs.Rows.{at, row_at, span, Only, WordsPut, Closed}
+use Rattle.jobs.specs.Rows.{at, span, Only, WordsPut, Closed}
 use Rattle.jobs.specs.Tables.{flag, machine_at, machine_from, machine_slot, machine_row_lem, machine_rows_lem, machines_of, machines_with, state_of, MachinesNow}
 use Rattle.jobs.proofs.Finds.{slot_hole, slot_full}
 use Rattle.jobs.proofs.Words.{only_row, set_only, only_wide, only_then, only_none, set_row, row_length, put_only}

@@ -1,12 +1,12 @@
 -- Rows that come and rows that move.
 -- Assumes nothing.
-use Rattle.std.proofs.Common.{◌≡◌, ℕ, zero, suc, ◌+◌, ◌-◌, ◌*◌, ◌<◌, ◌≤◌, min, Bool, true, false, cond, eqb, ◌⊎◌, List, [], ◌∷◌, ◌++◌, map, length, get_or, take, drop, set, sym, refl, ap, ◌∙◌, subst, inl, inr, arith}
+use Rattle.std.proofs.Common.{◌≡◌, ℕ, zero, suc, ◌+◌, ◌*◌, ◌<◌, ◌≤◌, min, false, cond, eqb, List, [], ◌∷◌, ◌++◌, map, length, take, drop, set, sym, refl, ap, ◌∙◌, inl, inr, arith}
 use borrow.Rule.Slice.PartMut.{put_mid}
 use Rattle.std.proofs.lemmas.List.{get_or-take, get_or-drop, get_or-set_same, get_or-set_other, map-append, length-map}
 use Rattle.std.proofs.lemmas.Bool.{cases_Bool, ne_eqb}
 use Rattle.model.specs.State as s
 use Rattle.model.specs.Settle.{fresh, more}
-use Rattle.jobs.specs.Layout.{home_words_lem, live_words, task_base}
+use Rattle.jobs.specs.Layout.{home_words_lem, live_words}
 use Rattle.jobs.specs.Rows.{at, row_at, span, Only, Entry, entry_at, Closed}
 use Rattle.jobs.specs.Tables.{task_from, task_slot, task_row_lem, task_at, task_rows_lem, tasks_of, job_from_lem, job_row_lem, state_of, TasksOnly, TasksNow}
 use Rattle.jobs.proofs.Words.{set_only, only_row, put_only, put_row_lem, row_length}

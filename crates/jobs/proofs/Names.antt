@@ -1,12 +1,11 @@
 -- Names, byte by byte.
 -- Assumes nothing.
-use Rattle.std.proofs.Common.{◌≡◌, ℕ, suc, ◌<◌, Bool, true, false, List, [], ◌∷◌, map, length, get_or, take, drop, sym, refl, ap, ◌∙◌, inl, inr, arith}
-use Rattle.std.specs.List.{range_with_len}
+use Rattle.std.proofs.Common.{◌≡◌, ℕ, suc, ◌<◌, true, false, List, [], ◌∷◌, length, get_or, take, drop, sym, refl, ap, ◌∙◌, inl, inr, arith}
 use Rattle.std.proofs.lemmas.List.FromFn.{length-map-range_with_len, get_or-map-range_with_len}
 use Rattle.std.proofs.lemmas.List.{ext_get_or, get_or-drop, length-drop, take_all}
 use Rattle.model.specs.Lists.{same}
-use Rattle.model.proofs.Lists.Tests.{bool, clash}
-use Rattle.model.proofs.Tasks.Names.{same_eq, eq_same, same_sym}
+use Rattle.model.proofs.Lists.Tests.{bool}
+use Rattle.model.proofs.Tasks.Names.{same_eq, eq_same}
 use Rattle.jobs.specs.Rows.{at}
 use Rattle.jobs.specs.Tables.{byte_at, bytes_of}
 

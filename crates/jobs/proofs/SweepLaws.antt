@@ -1,6 +1,6 @@
 -- All rows of tasks in turn, each changed by itself: the list is changed as a whole.
 -- Assumes nothing.
-use Rattle.std.proofs.Common.{◌≡◌, ℕ, ◌+◌, ◌<◌, ◌≤◌, min, List, [], ◌∷◌, ◌++◌, length, sym, refl, ap, ◌∙◌, arith}
+use Rattle.std.proofs.Common.{◌≡◌, ℕ, ◌+◌, ◌<◌, ◌≤◌, min, List, [], ◌++◌, length, sym, refl, ap, ◌∙◌, arith}
 use Rattle.model.specs.State as s
 use Rattle.model.specs.State.{with_tasks}
 use Rattle.jobs.specs.Layout.{home_words_lem}

@@ -1,15 +1,14 @@
 -- Changes of jobs, and of machines, and what they leave alone.
 -- Assumes nothing.
-use Rattle.std.proofs.Common.{◌≡◌, ℕ, zero, suc, ◌+◌, ◌-◌, ◌*◌, ◌<◌, ◌≤◌, min, Bool, true, false, cond, eqb, ◌⊎◌, List, [], ◌∷◌, ◌++◌, length, get_or, take, drop, set, sym, refl, ap, ◌∙◌, subst, inl, inr, arith}
-use Rattle.std.proofs.lemmas.Bool.{cases_Bool, eq-eqb, ne_eqb, cases_lt}
-use Rattle.std.proofs.lemmas.List.{length-append, length-set, get_or-set_other, get_or-set_same}
+use Rattle.std.proofs.Common.{◌≡◌, ℕ, ◌+◌, ◌-◌, ◌*◌, ◌<◌, ◌≤◌, min, List, ◌++◌, length, take, drop, set, sym, ap, ◌∙◌, arith}
+use Rattle.std.proofs.lemmas.List.{length-append, length-set, get_or-set_other}
 use Rattle.model.specs.State as s
 use Rattle.model.specs.State.{with_jobs, with_machines}
-use Rattle.jobs.specs.Layout.{home_words_lem, live_words}
-use Rattle.jobs.specs.Rows.{at, row_at, span, Only}
-use Rattle.jobs.specs.Tables.{task_at, task_slot, task_row_lem, task_rows_lem, tasks_of, job_at, job_slot, job_row_lem, job_rows_lem, jobs_of, machine_at, machine_slot, machine_row_lem, machine_rows_lem, machines_of, state_of, span_with}
+use Rattle.jobs.specs.Layout.{home_words_lem}
+use Rattle.jobs.specs.Rows.{at, span, Only}
+use Rattle.jobs.specs.Tables.{task_at, task_slot, task_row_lem, task_rows_lem, tasks_of, job_at, job_slot, job_rows_lem, jobs_of, machine_at, machine_slot, machine_rows_lem, machines_of, state_of, span_with}
 use Rattle.jobs.proofs.Spans.{span_same, span_at, span_more}
-use Rattle.jobs.proofs.Words.{row_same, row_before, only_row}
+use Rattle.jobs.proofs.Words.{row_same}
 
 -- LISTS OF ROWS
 

@@ -1,14 +1,13 @@
 -- A task's row, word by word.
 -- Assumes nothing.
-use Rattle.std.proofs.Common.{◌≡◌, ℕ, zero, suc, ◌+◌, ◌-◌, ◌*◌, ◌%◌, ◌<◌, ◌≤◌, Bool, true, false, cond, eqb, ◌⊎◌, List, [], ◌∷◌, ◌++◌, map, length, get_or, take, drop, set, sym, refl, ap, ◌∙◌, inl, inr, arith}
+use Rattle.std.proofs.Common.{◌≡◌, ℕ, ◌+◌, ◌*◌, ◌%◌, ◌<◌, ◌≤◌, true, false, eqb, List, [], ◌∷◌, length, drop, set, sym, refl, ap, ◌∙◌, inl, inr, arith}
 use Rattle.std.proofs.lemmas.List.{get_or-set_same, get_or-take, get_or-drop}
-use Rattle.std.proofs.lemmas.Bool.{cases_Bool, eq-eqb, ne_eqb}
-use Rattle.model.specs.State as s
-use Rattle.model.specs.State.{is_waiting, is_ready_lem, is_ending, phased, placed}
+use Rattle.std.proofs.lemmas.Bool.{cases_Bool}
+use Rattle.model.specs.State.{is_waiting}
 use Rattle.jobs.specs.Layout.{home_words_lem}
 use Rattle.jobs.specs.Rows.{at, Only}
-use Rattle.jobs.specs.Tables.{phase_from_lem, task_from, task_slot, task_row_lem, task_at, TaskPut}
-use Rattle.jobs.specs.Changes.{end_each, place_each, mark_each, marked_phase}
+use Rattle.jobs.specs.Tables.{phase_from_lem, task_slot, task_row_lem, task_at, TaskPut}
+use Rattle.jobs.specs.Changes.{end_each, place_each}
 use Rattle.jobs.proofs.Words.{set_only, set_row, only_wide, only_then, only_none, row_length}
 use Rattle.jobs.proofs.Frames.{put_task}
 

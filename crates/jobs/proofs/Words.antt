@@ -1,10 +1,10 @@
 -- Writes to some words, and the rows that they leave alone.
 -- Assumes nothing.
-use Rattle.std.proofs.Common.{◌≡◌, ℕ, zero, suc, ◌+◌, ◌-◌, ◌*◌, ◌<◌, ◌≤◌, ◌⊎◌, List, [], ◌∷◌, ◌++◌, length, get_or, take, drop, set, sym, refl, ap, ◌∙◌, inl, inr, add-mul, arith, rules}
+use Rattle.std.proofs.Common.{◌≡◌, ℕ, zero, suc, ◌+◌, ◌*◌, ◌<◌, ◌≤◌, ◌⊎◌, List, [], ◌∷◌, length, get_or, take, drop, set, refl, ap, ◌∙◌, inl, inr, add-mul, arith, rules}
 use borrow.Rule.Slice.PartMut.{put_mid}
 use Rattle.std.proofs.lemmas.Nat.{mul-le}
 use Rattle.std.proofs.lemmas.List.{ext_get_or, length-take, length-drop, get_or-take, get_or-drop, length-set, get_or-set_other, take_at, drop_at, drop-set-add, length-take-le, places}
-use Rattle.jobs.specs.Rows.{at, row_at, Only}
+use Rattle.jobs.specs.Rows.{at, Only}
 
 -- a row that comes before another ends before it
 pub row_before : (w k i : ℕ) → k < i → k * w + w ≤ i * w

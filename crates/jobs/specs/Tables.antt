@@ -1,12 +1,12 @@
 -- The state that the words stand for. Any words stand for one.
 -- Assumes nothing.
-use Rattle.std.specs.Prelude.{◌≡◌, ℕ, ◌+◌, ◌-◌, ◌*◌, ◌/◌, ◌%◌, ◌^◌, ◌<◌, ◌≤◌, min, Bool, true, false, cond, not, List, [], ◌∷◌, ◌++◌, map, length, take, drop, Option, MatchOption, ◌==◌, ◌≢◌, slice_index}
+use Rattle.std.specs.Prelude.{◌≡◌, ℕ, ◌+◌, ◌-◌, ◌*◌, ◌/◌, ◌%◌, ◌^◌, ◌<◌, min, Bool, true, cond, not, List, [], ◌∷◌, ◌++◌, map, length, take, drop, Option, MatchOption, ◌==◌, ◌≢◌, slice_index}
 use Rattle.std.specs.List.{range_with_len}
 use Rattle.model.specs.Lists.{find}
 use Rattle.model.specs.State as s
 use Rattle.model.specs.State.{with_jobs, with_machines}
 use Rattle.jobs.specs.Layout.{job_base, machine_base, task_base, ready_base}
-use Rattle.jobs.specs.Rows.{at, row_at, span, Only}
+use Rattle.jobs.specs.Rows.{at, row_at, span}
 
 -- A KIND: 23 words that a job has, and each of its tasks: version, spec (13), name (9)
 

@@ -4,7 +4,6 @@ use Rattle.std.specs.Prelude.{ℕ, ◌+◌, ◌*◌, cond, List, [], ◌∷◌, 
 use Rattle.model.specs.State as s
 use Rattle.jobs.specs.declared.name.Name.{Name}
 use Rattle.jobs.specs.declared.spec.Spec.{Spec}
-use Rattle.jobs.specs.declared.phase.Place.{Place}
 use Rattle.jobs.specs.declared.job.Job.{Job}
 use Rattle.jobs.specs.declared.machine.Machine.{Machine}
 use Rattle.jobs.specs.Rows.{at}

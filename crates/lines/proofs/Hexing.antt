@@ -1,12 +1,12 @@
 -- Bytes in hexadecimal, written byte by byte, and read back.
 -- Assumes nothing.
-use Rattle.std.proofs.Common.{◌≡◌, ℕ, suc, ◌+◌, ◌*◌, ◌/◌, ◌%◌, ◌<◌, ◌≤◌, Bool, true, false, cond, ltb, List, [], ◌∷◌, ◌++◌, length, get_or, take, set, sym, refl, ap, ◌∙◌, append_assoc, append-nil, arith, length-set}
+use Rattle.std.proofs.Common.{◌≡◌, ℕ, ◌+◌, ◌*◌, ◌/◌, ◌%◌, ◌<◌, ◌≤◌, [], ◌∷◌, ◌++◌, length, get_or, take, set, sym, refl, ap, ◌∙◌, append_assoc, append-nil, arith, length-set}
 use Rattle.std.specs.Char.{digit_value, digit_char}
 use Rattle.std.specs.Int.Digits.{AllBelowBase}
 use Rattle.std.proofs.lemmas.List.{take_more, take_more_set}
 use Rattle.std.proofs.lemmas.Str.{digit_value-digit_char}
 use Rattle.model.specs.Wire.{Bytes, meant}
-use Rattle.lines.specs.Text.{Text, first, second, hex_on, hex_text, HexBack}
+use Rattle.lines.specs.Text.{Text, first, hex_on, hex_text, HexBack}
 use Rattle.lines.proofs.Reading.{hex_first, hex_second}
 
 pub hex_text_push : (bs : Bytes) (b : ℕ) → hex_text (bs ++ (b ∷ [])) ≡ hex_text bs ++ (digit_char (b / 16) ∷ digit_char (b % 16) ∷ [])

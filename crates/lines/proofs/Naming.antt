@@ -1,10 +1,10 @@
 -- A name that came, byte by byte, beside one in a row.
 -- Assumes nothing.
-use Rattle.std.proofs.Common.{◌≡◌, ℕ, zero, suc, ◌+◌, ◌-◌, ◌*◌, ◌/◌, ◌%◌, ◌^◌, ◌<◌, ◌≤◌, min, Bool, true, false, cond, not, ◌&&◌, eqb, List, [], ◌∷◌, ◌++◌, length, get_or, take, drop, sym, refl, ap, ◌∙◌, inl, inr, arith}
+use Rattle.std.proofs.Common.{◌≡◌, ℕ, zero, suc, ◌+◌, ◌-◌, ◌*◌, ◌/◌, ◌%◌, ◌^◌, ◌<◌, min, true, false, eqb, List, [], length, get_or, take, drop, sym, ap, ◌∙◌, inl, inr, arith}
 use Rattle.std.proofs.lemmas.List.{ext_get_or, get_or-take, get_or-drop}
 use Rattle.std.proofs.lemmas.Bool.{cases_Bool}
 use Rattle.model.specs.Lists.{keep, same}
-use Rattle.model.specs.State.{Name, Task, of_job}
+use Rattle.model.specs.State.{Name, of_job}
 use Rattle.model.proofs.Tasks.Names.{eq_same}
 use Rattle.settling.proofs.Scans.{keep_append}
 use Rattle.jobs.specs.Rows.{at, span}

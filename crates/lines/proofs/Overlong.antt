@@ -1,10 +1,10 @@
 -- No line that is longer than a report of 2,048 tasks can be done.
 -- Assumes nothing.
-use Rattle.std.proofs.Common.{◌≡◌, ℕ, suc, ◌+◌, ◌-◌, ◌*◌, ◌<◌, ◌≤◌, min, Bool, true, false, cond, ◌&&◌, ◌||◌, eqb, ltb, ◌⊎◌, List, [], ◌∷◌, length, get_or, take, drop, sym, refl, ap, ◌∙◌, subst, inl, inr, arith}
+use Rattle.std.proofs.Common.{◌≡◌, ℕ, ◌+◌, ◌*◌, ◌<◌, ◌≤◌, Bool, true, false, cond, ◌&&◌, ◌||◌, eqb, ltb, [], ◌∷◌, length, get_or, take, drop, sym, refl, ap, ◌∙◌, subst, inl, inr, arith}
 use Rattle.std.proofs.lemmas.Bool.{cases_Bool, and_parts, eqb-true, ne_eqb, lt-ltb, ltb-true, ltb-false, or_right}
 use Rattle.std.proofs.lemmas.List.{take_all, length-drop, drop_more, get_or-drop}
 use Rattle.model.specs.State.{State}
-use Rattle.model.specs.Calls.{Call, Report, Out, acts, no}
+use Rattle.model.specs.Calls.{Call, Report, acts, no}
 use Rattle.model.specs.Wire.{Bytes, Read, garbled, meant, byte_at, field, read_kind_lem, read_call, read_report_lem, seens_in, flags_in}
 use Rattle.model.specs.Lines.{call_in}
 use Rattle.calls.proofs.News.{seens_length}

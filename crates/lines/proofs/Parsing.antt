@@ -1,11 +1,11 @@
 -- Bytes that are a call: what their parts say together.
 -- Assumes nothing.
-use Rattle.std.proofs.Common.{◌≡◌, ℕ, zero, suc, ◌+◌, ◌-◌, ◌*◌, ◌/◌, ◌<◌, ◌≤◌, Bool, true, false, cond, ◌&&◌, eqb, leb, List, [], ◌∷◌, ◌++◌, length, get_or, take, drop, sym, refl, ap, ◌∙◌, arith, length-drop, get_or-drop, take-take, drop-drop}
+use Rattle.std.proofs.Common.{◌≡◌, ℕ, zero, suc, ◌+◌, ◌-◌, ◌*◌, ◌/◌, ◌<◌, ◌≤◌, Bool, true, false, ◌&&◌, eqb, [], ◌∷◌, length, get_or, take, drop, sym, refl, ap, ◌∙◌, arith, length-drop, get_or-drop, take-take, drop-drop}
 use Rattle.std.proofs.lemmas.List.{take_all, drop-take}
-use Rattle.std.proofs.lemmas.Bool.{eq-eqb, ne_eqb, le-leb, lt-leb}
+use Rattle.std.proofs.lemmas.Bool.{eq-eqb, le-leb, lt-leb}
 use Rattle.model.specs.State.{Spec}
 use Rattle.model.specs.Calls.{AddMachine, Report, SetJob}
-use Rattle.model.specs.Wire.{Bytes, Read, garbled, meant, byte_at, field, is_flag, tags_in_lem, seens_in, flags_in, spec_in_lem, read_set_of, read_set_lem, read_add_lem, read_report_lem, read_kind_lem, read_call}
+use Rattle.model.specs.Wire.{Bytes, garbled, meant, byte_at, field, is_flag, tags_in_lem, seens_in, flags_in, spec_in_lem, read_set_of, read_set_lem, read_add_lem, read_report_lem, read_kind_lem, read_call}
 use Rattle.octets.proofs.Numbers.{length_take_under}
 use Rattle.calls.specs.Meaning.{tags_of, seens_of}
 

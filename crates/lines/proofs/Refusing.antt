@@ -1,9 +1,9 @@
 -- Which refusal a line gets while no kind of call is built, and its bytes.
 -- Assumes nothing.
-use Rattle.std.proofs.Common.{◌≡◌, ℕ, ◌+◌, ◌/◌, ◌%◌, ◌<◌, ◌≤◌, Bool, true, false, cond, not, ◌&&◌, eqb, ltb, List, [], ◌∷◌, ◌++◌, sym, refl, ap, ◌∙◌, arith}
+use Rattle.std.proofs.Common.{◌≡◌, ℕ, ◌/◌, ◌%◌, Bool, true, false, cond, not, ◌&&◌, eqb, [], ◌∷◌, refl, arith}
 use Rattle.std.proofs.lemmas.Bool.{ne_eqb}
 use Rattle.model.specs.State.{blank}
-use Rattle.model.specs.Wire.{Bytes, Refused, read_call}
+use Rattle.model.specs.Wire.{Bytes, read_call}
 use Rattle.model.specs.Lines.{framed, tag_in, call_in, kind_in, is_known, refuses, call_says, bytes_say, no_kind, answer_line}
 use Rattle.octets.proofs.Numbers.{bytes_of_four}
 

@@ -1,13 +1,13 @@
 -- What a line says is what its call means.
 -- Assumes nothing.
-use Rattle.std.proofs.Common.{◌≡◌, ℕ, Bool, true, false, cond, not, ◌&&◌, T, eqb, ltb, List, [], ◌∷◌, sym, refl, ap, ◌∙◌, subst, arith}
+use Rattle.std.proofs.Common.{◌≡◌, ℕ, Bool, true, false, cond, not, ◌&&◌, T, eqb, [], ◌∷◌, sym, refl, ap, ◌∙◌, subst, arith}
 use Rattle.std.proofs.lemmas.Bool.{eqb-true, true≢false}
 use Rattle.model.specs.State.{State}
 use Rattle.model.specs.Calls.{Call, SetJob, EndJob, AddMachine, Close, Reopen, Forget, Report, Tick, Show, Reply, No, Out, no, is_tick, does}
 use Rattle.model.specs.Promise.{Answers, says_so, not_yet}
-use Rattle.model.specs.Wire.{Bytes, Read, garbled, meant, read_name, read_machine, read_report_lem, read_tick, read_kind_lem, read_call, kind_of, answer_to}
+use Rattle.model.specs.Wire.{Bytes, Read, garbled, meant, read_name, read_report_lem, read_tick, read_kind_lem, read_call, kind_of, answer_to}
 use Rattle.model.proofs.Lists.Tests.{to_true, from_true}
-use Rattle.model.specs.Lines.{kind_in, is_known, Said, refuses, call_says, bytes_say, LinesSaySo, NoCallNoChange}
+use Rattle.model.specs.Lines.{kind_in, is_known, Said, refuses, call_says, LinesSaySo, NoCallNoChange}
 
 pub no_call_no_change_lem : NoCallNoChange
 no_call_no_change_lem built bs s e = pick (is_known (kind_in bs) && not (built (kind_in bs))) (eqb s.now 0 && not (eqb (kind_in bs) 8))

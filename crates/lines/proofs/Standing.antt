@@ -1,9 +1,9 @@
 -- The code that answers lines is right, and so is every run of it.
 -- Assumes nothing.
-use Rattle.std.proofs.Common.{◌≡◌, ◌⊎◌, sym, refl, ap, ◌∙◌, subst, inl, inr}
-use Rattle.model.specs.State.{State, blank}
+use Rattle.std.proofs.Common.{◌≡◌, sym, refl, ap, ◌∙◌, inl}
+use Rattle.model.specs.State.{blank}
 use Rattle.model.specs.Calls.{down}
-use Rattle.model.specs.Memory.{Memory, fits_done, comes_to, leaves}
+use Rattle.model.specs.Memory.{fits_done, comes_to, leaves}
 use Rattle.model.specs.Right.{RightBy, RunsRight}
 use Rattle.model.specs.Wire.{Bytes}
 use Rattle.model.specs.Lines.{herd_on_lines, no_kind, call_in, Said, answer_line, line_leaves}

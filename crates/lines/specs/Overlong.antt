@@ -1,6 +1,6 @@
 -- A line that is longer than is held can't be done, whatever it is.
 -- Assumes nothing.
-use Rattle.std.specs.Prelude.{◌≡◌, ℕ, ◌<◌, Bool, true, false, List, take, slice_index}
+use Rattle.std.specs.Prelude.{◌≡◌, ℕ, ◌<◌, Bool, true, false, take, slice_index}
 use Rattle.model.specs.State.{State}
 use Rattle.model.specs.Calls.{Call, acts, no}
 use Rattle.model.specs.Wire.{Bytes, meant, read_call}

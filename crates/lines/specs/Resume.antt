@@ -1,6 +1,6 @@
 -- Where the reading of a text stands, by what it comes to with the rest of the text.
 -- Assumes nothing.
-use Rattle.std.specs.Prelude.{◌≡◌, ℕ, List, [], ◌∷◌, ◌++◌, Some, None, Option}
+use Rattle.std.specs.Prelude.{◌≡◌, ℕ, List, [], ◌∷◌, Some, None, Option}
 use Rattle.model.specs.Wire.{Bytes, Read, garbled, meant}
 use Rattle.lines.specs.declared.stage.Stage.{Stage}
 use Rattle.lines.specs.declared.stage.Stage.TheVariants.{Start, I, In, T, Ti, Tim, Time, High, Low, Clock, Bad}

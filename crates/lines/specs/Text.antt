@@ -1,6 +1,6 @@
 -- What a line of text says: `in HEX` the bytes of a line, `time T` the line that tells that time, and anything else no byte of a line.
 -- Assumes nothing.
-use Rattle.std.specs.Prelude.{◌≡◌, ℕ, ◌+◌, ◌*◌, ◌/◌, ◌%◌, ◌<◌, Bool, true, false, cond, ◌&&◌, List, [], ◌∷◌, ◌++◌, ◌==◌, nat_lt}
+use Rattle.std.specs.Prelude.{◌≡◌, ℕ, ◌+◌, ◌*◌, ◌/◌, ◌%◌, cond, ◌&&◌, List, [], ◌∷◌, ◌++◌, ◌==◌, nat_lt}
 use Rattle.std.specs.Char.{digit_value, digit_char}
 use Rattle.std.specs.Int.Digits.{AllBelowBase}
 use Rattle.model.specs.Calls.{Tick}

@@ -3,7 +3,7 @@
 use Rattle.std.proofs.Common.{◌≡◌, ℕ, suc, ◌+◌, ◌≤◌, Bool, true, false, cond, not, ◌&&◌, eqb, leb, ◌⊎◌, List, [], ◌∷◌, ◌++◌, sym, refl, ap, ◌∙◌, subst, inl, inr, le_trans, arith}
 use Rattle.std.proofs.lemmas.Bool.{and_parts, leb-true, eqb-true, eq-eqb}
 use Rattle.model.specs.State.{Machine, Spec, Job, Phase, Waiting, Ending, Task, State, is_waiting, is_task, of_job, on_machine, phased, placed, with_tasks, cpu_of, mem_of}
-use Rattle.model.specs.Lists.{some, every, keep, change, same}
+use Rattle.model.specs.Lists.{some, every, keep, change}
 use Rattle.model.specs.Settle.{here, present, takes, best, place, place_all_lem, ended, fresh, for_job, orphans_end, settle, more, unplaced}
 use Rattle.model.proofs.Lists.{clash, In, in_end, keep_no, in_keep, Pass, done, gone, goes, pass_same, pass_change, pass_from, pass_weaken, Once}
 use Rattle.model.proofs.Tasks.{rising_one, Ends, jobless, orphans_pass, ended_pass, MayEnd, step_is, steps_are, Put, Never, Queue, queue_next, queue_of}

@@ -5,7 +5,7 @@ use Rattle.std.proofs.lemmas.Bool.{cond_both}
 use Rattle.model.specs.State.{Machine, Job, Told, Task, State, blank, is_ready_lem, phased, with_tasks}
 use Rattle.model.specs.Lists.{keep}
 use Rattle.model.specs.Settle.{ended, orphans_end, settle, may_grow_lem, more, unplaced}
-use Rattle.model.specs.Calls.{Seen, Call, Forget, Report, reports, heard_all, unsure, does, down}
+use Rattle.model.specs.Calls.{Seen, Call, Forget, Report, heard_all, unsure, does, down}
 use Rattle.model.specs.World.{World, Step, Reach}
 use Rattle.model.proofs.Lists.{In, Pass, pass_same, pass_keep, pass_map, pass_weaken}
 use Rattle.model.proofs.Tasks.{jobless, Ends, orphans_pass, ended_pass, MayEnd, step_is, steps_are, Put}

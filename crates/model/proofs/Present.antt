@@ -1,16 +1,16 @@
 -- A ready task is on a machine that is present, at every moment of every run: ready is what a report said, of a machine that was heard of since.
 -- Assumes nothing.
-use Rattle.std.proofs.Common.{◌≡◌, ℕ, ◌+◌, ◌≤◌, Bool, true, false, cond, not, ◌&&◌, eqb, leb, ◌⊎◌, List, [], ◌∷◌, ◌++◌, map, sym, refl, ap, ◌∙◌, subst, inl, inr, arith}
-use Rattle.std.proofs.lemmas.Bool.{false≢true, and_parts, and_from, and_cases, not-true, not-false, eqb-true, eq-eqb, le-leb, cond_both}
-use Rattle.model.specs.Lists.{some, keep, find, change}
-use Rattle.model.specs.State.{Machine, Job, Phase, Waiting, Told, Ready, Ending, Task, State, is_waiting, is_ready_lem, is_machine, on_machine, phased, with_tasks}
-use Rattle.model.specs.Settle.{ended, fresh, more, for_job, orphans_end, unplaced, settle, present}
+use Rattle.std.proofs.Common.{◌≡◌, ℕ, ◌+◌, Bool, true, false, cond, not, ◌&&◌, eqb, leb, ◌⊎◌, List, [], ◌∷◌, map, sym, refl, ap, ◌∙◌, subst, inl, inr, arith}
+use Rattle.std.proofs.lemmas.Bool.{false≢true, and_parts, and_from, and_cases, not-true, not-false, eqb-true, le-leb}
+use Rattle.model.specs.Lists.{some, find, change}
+use Rattle.model.specs.State.{Machine, Job, Phase, Waiting, Told, Ending, Task, State, is_waiting, is_ready_lem, is_machine, on_machine, phased, with_tasks}
+use Rattle.model.specs.Settle.{ended, fresh, more, orphans_end, unplaced, settle, present}
 use Rattle.model.specs.Calls.{Seen, Call, SetJob, EndJob, AddMachine, Close, Reopen, Forget, Report, Tick, Show, Out, new_machine, heard_from, heard, opened, unsure, later, is_tick, does, unready, down}
 use Rattle.model.specs.Always.{AlwaysReadyThere}
 use Rattle.model.proofs.Lists.{to_true, from_true, clash, bool, In, in_from, in_to, in_end, in_left, some_at, find_in, in_keep, keep_in, change_hit, change_miss, Pass, pass_change, pass_map, pass_from, pass_to}
 use Rattle.model.proofs.Tasks.{waiting_not_ready, jobless, Ends, orphans_pass, ended_pass, MayEnd, step_is, steps_are, Put, Never}
 use Rattle.model.proofs.Settles.{Tidy, tidy_pass, tidy_step, orphan_id, EndsOne, unplaced_alike, settle_pass, Fine}
-use Rattle.model.proofs.Acts.{Must, Pre, must_from, pre_both, does_timed, heard_pass, HeardAs, fine_pre}
+use Rattle.model.proofs.Acts.{Pre, must_from, pre_both, does_timed, heard_pass, HeardAs, fine_pre}
 use Rattle.model.proofs.Keeps.{on_machine_lem}
 use Rattle.model.proofs.Kin.{reach_herd}
 

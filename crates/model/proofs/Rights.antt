@@ -2,7 +2,7 @@
 -- Assumes nothing.
 use Rattle.std.proofs.Common.{◌≡◌, Bool, true, false, cond, List, [], ◌∷◌, map, refl, ap, inl}
 use Rattle.model.specs.State.{Machine, Task, State, Told, is_ready_lem, phased, blank}
-use Rattle.model.specs.Calls.{down, heard}
+use Rattle.model.specs.Calls.{down}
 use Rattle.model.specs.Memory.{Memory, comes_to, fits_done, Code, Meant, Right}
 use Rattle.model.specs.Right.{RightBy, RunsFit, RunsRight}
 use Rattle.model.specs.Promise.{not_yet, herd, DarkOnce, nothing, silent, BlankTold, BlankAwake, SilentRight}

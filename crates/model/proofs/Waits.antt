@@ -6,7 +6,7 @@ use Rattle.std.proofs.lemmas.Bool.{and_parts, not-true, eqb-false}
 use Rattle.model.specs.Lists.{some, every}
 use Rattle.model.specs.State.{Machine, Task, State, of_job, cpu_of, mem_of}
 use Rattle.model.specs.Settle.{settle, here, present}
-use Rattle.model.specs.Calls.{Call, Reply, Out, does, down, heard}
+use Rattle.model.specs.Calls.{Call, Reply, Out, does, down}
 use Rattle.model.specs.Memory.{Happens, MayHappen}
 use Rattle.model.specs.Promise.{Answers, says_so, not_yet, herd}
 use Rattle.model.specs.Always.{NoneWaits, NeverWaits, WhateverHappens}

@@ -1,7 +1,7 @@
 -- Of every run of code that is free in how it does a call: what happened may happen; and each code that is one of its ways is right.
 -- Assumes nothing.
-use Rattle.std.proofs.Common.{◌≡◌, ◌⊎◌, List, [], ◌∷◌, sym, subst, inl, inr}
-use Rattle.model.specs.Memory.{Memory, Meant, Happens, answered, cut_in, cut_else, Stand, asleep, awake, MayHappen}
+use Rattle.std.proofs.Common.{◌≡◌, ◌⊎◌, List, ◌∷◌, sym, subst, inl, inr}
+use Rattle.model.specs.Memory.{Memory, Meant, Happens, cut_in, Stand, asleep, awake, MayHappen}
 use Rattle.model.specs.Ways.{Ways, RightWays, WaysRun, WaysRunRight, PicksRight}
 
 module _ {C R : Type 0} (j : Meant C R) (e : Ways C R) (Tells : Memory → j.State → Type 0) (Awake : e.Mind → Memory → j.State → Type 0) (r : RightWays j e Tells Awake) where

@@ -1,6 +1,6 @@
 -- What a line of bytes is answered with, and what it leaves: the meaning of the herd, said of lines.
 -- Assumes nothing.
-use Rattle.std.specs.Prelude.{◌≡◌, ℕ, ◌+◌, ◌-◌, Bool, true, false, cond, not, ◌&&◌, ◌||◌, List, [], ◌∷◌, ◌++◌, length, drop, ◌==◌, nat_lt}
+use Rattle.std.specs.Prelude.{◌≡◌, ℕ, ◌+◌, Bool, true, false, cond, not, ◌&&◌, ◌||◌, [], ◌∷◌, ◌++◌, length, drop, ◌==◌, nat_lt}
 use Rattle.model.specs.State.{State, blank}
 use Rattle.model.specs.Calls.{Call, Reply, does, down}
 use Rattle.model.specs.Memory.{Meant}

@@ -1,6 +1,6 @@
 -- The pass: one step from what is there towards what is wanted. Tasks of jobs that are no longer wanted end; each job makes one step; then tasks that wait are placed.
 -- Assumes nothing.
-use Rattle.std.specs.Prelude.{ℕ, ◌+◌, ◌-◌, Bool, true, false, cond, not, ◌&&◌, ◌||◌, List, [], ◌∷◌, ◌++◌, length, ◌==◌, nat_eq, nat_le, nat_lt}
+use Rattle.std.specs.Prelude.{ℕ, ◌+◌, ◌-◌, Bool, cond, not, ◌&&◌, ◌||◌, List, [], ◌∷◌, ◌++◌, length, ◌==◌, nat_eq, nat_le, nat_lt}
 use Rattle.model.specs.Lists.{some, every, keep, change, none, same, last_of, head_or}
 use Rattle.model.specs.State.{Machine, Job, Waiting, Ending, Task, State, is_waiting, is_ready_lem, is_ending, is_task, is_machine, of_job, on_machine, phased, placed, with_tasks, cpu_of, mem_of}
 

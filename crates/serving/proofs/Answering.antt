@@ -1,12 +1,11 @@
 -- A line is served: what the code says, keeps and stores.
 -- Assumes nothing.
-use Rattle.std.proofs.Common.{◌≡◌, ℕ, ◌<◌, Bool, true, false, not, List, length, get_or, Result, sym, refl, ap, ◌∙◌, subst, inl, inr}
-use Rattle.std.proofs.lemmas.Bool.{cases_Bool}
+use Rattle.std.proofs.Common.{◌≡◌, ℕ, ◌<◌, Bool, true, false, not, length, get_or, Result, sym, refl, ap, ◌∙◌}
 use Rattle.model.specs.State.{State}
 use Rattle.model.specs.Memory.{Memory}
 use Rattle.model.specs.Wire as w
 use Rattle.model.specs.Wire.{Bytes, answer_bytes}
-use Rattle.model.specs.Lines.{core_kind, framed, tag_in, call_in, bytes_say, herd_on_lines}
+use Rattle.model.specs.Lines.{core_kind, framed, tag_in, call_in, herd_on_lines}
 use Rattle.jobs.specs.Layout.{home_words_lem}
 use Rattle.calls.specs.declared.answer.Answer.{Answer}
 use Rattle.calls.specs.declared.answer.Answer.TheVariants.{TurnedAway, Yes, Run, Lines}
@@ -16,7 +15,7 @@ use Rattle.calls.specs.Sound.{sound_words}
 use Rattle.device.specs.Follows.{Follows}
 use Rattle.device.specs.Service.{Said, keeping, finishing}
 use Rattle.device.proofs.Calls.{call_budget}
-use Rattle.serving.specs.Herd.{Held, state_in, Whole, is_quiet, SaysTo, saying, herd_code, Tells, Awake}
+use Rattle.serving.specs.Herd.{Held, state_in, is_quiet, SaysTo, saying, herd_code, Tells, Awake}
 use Rattle.serving.specs.Responds.{Responds}
 use Rattle.serving.specs.Serves.{Serves}
 use Rattle.serving.proofs.Standing.{herd_right}

@@ -1,6 +1,6 @@
 -- What is turned away unread, by the meaning of lines.
 -- Assumes nothing.
-use Rattle.std.proofs.Common.{◌≡◌, ℕ, Bool, true, false, sym, refl, ap, ◌∙◌}
+use Rattle.std.proofs.Common.{◌≡◌, ℕ, false}
 use Rattle.model.specs.State.{State}
 use Rattle.model.specs.Wire.{Bytes, read_call}
 use Rattle.model.specs.Lines.{core_kind, kind_in, refuses, call_says, bytes_say}

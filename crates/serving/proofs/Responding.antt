@@ -1,7 +1,7 @@
 -- The answer in memory is what the meaning of lines says.
 -- Assumes nothing.
-use Rattle.std.proofs.Common.{◌≡◌, ℕ, Bool, true, false, cond, not, ◌&&◌, eqb, List, sym, refl, ap, ◌∙◌, subst}
-use Rattle.std.proofs.lemmas.Bool.{cond-false, and_parts, and_cases, not-false, true≢false}
+use Rattle.std.proofs.Common.{◌≡◌, ℕ, Bool, true, false, not, ◌&&◌, eqb, sym, refl, ap, ◌∙◌, subst}
+use Rattle.std.proofs.lemmas.Bool.{cond-false, true≢false}
 use Rattle.model.specs.State.{State}
 use Rattle.model.specs.Calls as m
 use Rattle.model.specs.Wire.{Bytes, Read, garbled, meant, read_call, kind_of, answer_to}

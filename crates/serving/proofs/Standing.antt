@@ -1,16 +1,14 @@
 -- The herd's code is right for the meaning of lines.
 -- Assumes nothing.
-use Rattle.std.proofs.Common.{◌≡◌, ℕ, ◌<◌, Bool, true, false, cond, List, length, get_or, replicate, sym, refl, ap, ◌∙◌, subst, arith}
+use Rattle.std.proofs.Common.{◌≡◌, ℕ, true, List, sym, refl, ap, ◌∙◌, subst, arith}
 use Rattle.std.proofs.lemmas.Bool.{cond-true}
-use Rattle.model.specs.State.{State, blank}
+use Rattle.model.specs.State.{blank}
 use Rattle.model.specs.Calls.{core, down}
 use Rattle.model.specs.Ways.{RightWays, WaysRunRight}
 use Rattle.model.specs.Right.{Darkens}
 use Rattle.model.specs.Lines.{core_kind, herd_on_lines, line_leaves, answer_line}
-use Rattle.model.specs.Wire.{Bytes}
 use Rattle.model.proofs.Rights.{dark_once_lem}
 use Rattle.jobs.specs.Layout.{home_words_lem, live_words}
-use Rattle.jobs.specs.Tables.{state_of}
 use Rattle.jobs.proofs.Darkness.{goes_dark_lem}
 use Rattle.calls.specs.Sound.{sound_words}
 use Rattle.calls.proofs.Soundness.{zeros_at, zeros_blank, zeros_sound}

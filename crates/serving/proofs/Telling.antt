@@ -1,6 +1,6 @@
 -- From what code over a device followed to what that is to a server, to the run so far, and to what is meant.
 -- Assumes nothing.
-use Rattle.std.proofs.Common.{◌≡◌, ℕ, Bool, List, ◌∷◌, Result, subst, subst₂}
+use Rattle.std.proofs.Common.{ℕ, Bool, List, ◌∷◌, Result, subst₂}
 use Rattle.std.proofs.lemmas.Result.{MatchResult-weaker}
 use Rattle.model.specs.Memory.{Memory, Doing, done, Meant, Happens, answered, asleep, awake}
 use Rattle.model.specs.Ways.{Ways, RightWays, WaysRun}

@@ -1,6 +1,6 @@
 -- Waking: what the words become in memory.
 -- Assumes nothing.
-use Rattle.std.proofs.Common.{◌≡◌, ℕ, ◌<◌, Bool, true, false, cond, List, length, get_or, sym, refl, ap, ◌∙◌, subst}
+use Rattle.std.proofs.Common.{◌≡◌, ℕ, Bool, true, false, cond, List, length, get_or, sym, refl, ap, ◌∙◌, subst}
 use Rattle.std.proofs.lemmas.List.{ext_get_or}
 use Rattle.model.specs.Memory.{Memory}
 use Rattle.model.specs.State.{State}
@@ -12,7 +12,7 @@ use Rattle.serving.proofs.Telling.{woken}
 use Rattle.jobs.specs.Layout.{home_words_lem, live_words}
 use Rattle.calls.specs.Sound.{sound_words}
 use Rattle.calls.proofs.Soundness.{zeros_sound}
-use Rattle.serving.specs.Herd.{Held, herd_server, herd_code, Tells, wakes_as}
+use Rattle.serving.specs.Herd.{Held, herd_server, herd_code, Tells}
 
 -- words that are all 0
 pub cleared : (n : ℕ) (ws : List ℕ) → length ws ≡ n → ((k : ℕ) → get_or ws k 0 ≡ 0) → ws ≡ zeros n

@@ -1,6 +1,6 @@
 -- A line is served over kept words: in one of the ways of the herd's code, to its end or cut in it, within its budget of stores.
 -- Assumes nothing.
-use Rattle.std.specs.Prelude.{◌≡◌, Bool, true, false, Result}
+use Rattle.std.specs.Prelude.{◌≡◌, Bool, true, Result}
 use Rattle.model.specs.Memory.{Memory}
 use Rattle.model.specs.Wire.{Bytes}
 use Rattle.model.specs.Lines.{core_kind, bytes_say, call_in, herd_on_lines}

@@ -1,17 +1,17 @@
 -- The best of machines, one more row at a time.
 -- Assumes nothing.
-use Rattle.std.proofs.Common.{◌≡◌, ℕ, ◌+◌, ◌-◌, ◌<◌, ◌≤◌, Bool, true, false, cond, not, ◌&&◌, eqb, ltb, leb, List, [], ◌∷◌, ◌++◌, length, Some, None, Option, sym, refl, ap, ◌∙◌, subst, inl, inr, arith, rules}
+use Rattle.std.proofs.Common.{◌≡◌, ℕ, ◌+◌, ◌-◌, ◌<◌, ◌≤◌, Bool, true, false, cond, not, ◌&&◌, ltb, leb, List, [], ◌∷◌, ◌++◌, Some, None, Option, refl, ap, ◌∙◌, inl, inr, arith, rules}
 use Rattle.std.proofs.lemmas.List.{append-nil}
 use Rattle.std.proofs.lemmas.Bool.{cases_Bool, ltb-true, ltb-false, lt-ltb, le-ltb, leb-true, and_parts}
-use Rattle.model.specs.Lists.{keep, every, some}
+use Rattle.model.specs.Lists.{keep, every}
 use Rattle.model.specs.State as s
-use Rattle.model.specs.Settle.{takes, present, best, better, left, here}
+use Rattle.model.specs.Settle.{takes, present, best, better, left}
 use Rattle.jobs.specs.Rows.{span}
 use Rattle.jobs.proofs.Spans.{span_more}
 use Rattle.settling.specs.Place.{LoadBy, fits_on_lem, has_tag_lem, improved, Chosen}
 use Rattle.settling.specs.declared.load.Load.{Load}
 use Rattle.settling.specs.declared.load.Choice.{Choice}
-use Rattle.settling.proofs.Scans.{keep_none, keep_yes, keep_no}
+use Rattle.settling.proofs.Scans.{keep_yes, keep_no}
 
 module _ (ts : List s.Task) where
   -- the better of the best so far and one more

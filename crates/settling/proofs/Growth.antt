@@ -1,17 +1,13 @@
 -- Room for a new task.
 -- Assumes nothing.
-use Rattle.std.proofs.Common.{◌≡◌, ℕ, ◌+◌, ◌<◌, ◌≤◌, Bool, true, false, cond, not, ◌&&◌, ltb, List, [], ◌∷◌, length, sym, refl, ap, ◌∙◌, subst, inl, inr, arith}
-use Rattle.std.proofs.lemmas.Bool.{and_parts, ltb-true, ltb-false, cases_Bool, lt-ltb, le-ltb}
+use Rattle.std.proofs.Common.{◌≡◌, ℕ, ◌<◌, ◌≤◌, true, List, length, sym, ap, ◌∙◌}
 use Rattle.model.specs.State as s
 use Rattle.model.specs.State.{with_tasks}
-use Rattle.model.specs.Settle.{mine, alive, new_ones, may_grow_lem, more, grows}
+use Rattle.model.specs.Settle.{may_grow_lem, more, grows}
 use Rattle.jobs.specs.Layout.{home_words_lem}
-use Rattle.jobs.specs.Rows.{at}
-use Rattle.jobs.specs.Tables.{task_at, task_rows_lem, tasks_of, job_from_lem, job_row_lem, state_of, TasksOnly, TasksNow}
-use Rattle.jobs.proofs.Frames.{job_row_same, frame_none}
+use Rattle.jobs.specs.Tables.{tasks_of, job_from_lem, job_row_lem, state_of, TasksNow}
+use Rattle.jobs.proofs.Frames.{job_row_same}
 use Rattle.jobs.proofs.SweepLaws.{now_state}
-use Rattle.settling.specs.Scan.{Tallied}
-use Rattle.settling.specs.declared.tally.Tally.{Tally}
 
 -- room is made, and the task comes
 pub grows_so : (j : s.Job) (home live mid midl home' live' : List ℕ) (time r : ℕ) → home_words_lem ≤ length home → r < 256 → j ≡ job_from_lem (job_row_lem home r) → may_grow_lem j (state_of home live time) ≡ true → TasksNow (tasks_of home live) home live mid midl →

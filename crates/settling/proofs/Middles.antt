@@ -1,15 +1,15 @@
 -- A list by rising numbers, and one task in the midst of it.
 -- Assumes nothing.
-use Rattle.std.proofs.Common.{◌≡◌, ℕ, zero, suc, ◌+◌, ◌<◌, ◌≤◌, Bool, true, false, cond, not, ◌||◌, eqb, ◌⊎◌, List, [], ◌∷◌, ◌++◌, sym, refl, ap, ◌∙◌, subst, inl, inr, arith}
+use Rattle.std.proofs.Common.{◌≡◌, ℕ, suc, ◌≤◌, true, false, eqb, List, [], ◌∷◌, ◌++◌, refl, inl, inr, arith}
 use Rattle.std.proofs.lemmas.Bool.{cases_Bool, eq-eqb, ne_eqb}
-use Rattle.model.specs.Lists.{some, keep, change}
+use Rattle.model.specs.Lists.{some}
 use Rattle.model.specs.State as s
 use Rattle.model.specs.State.{is_task, is_waiting, phased, placed}
 use Rattle.model.specs.Settle.{ended, place}
 use Rattle.model.proofs.Lists.Members.{In}
 use Rattle.model.proofs.Lists.Chosen.{not_some}
 use Rattle.model.proofs.Tasks.ByNumber.{Rising, rising_over}
-use Rattle.jobs.specs.Changes.{end_each, place_each}
+use Rattle.jobs.specs.Changes.{end_each}
 use Rattle.jobs.proofs.FoundLaws.{change_mid, keep_mid}
 
 in_mid : (a : List s.Task) (t : s.Task) (b : List s.Task) → In t (a ++ (t ∷ b))

@@ -1,12 +1,11 @@
 -- Who ends, by a tally.
 -- Assumes nothing.
-use Rattle.std.proofs.Common.{◌≡◌, ℕ, ◌<◌, Bool, true, false, cond, not, ltb, List, [], ◌∷◌, length, Some, None, Option, sym, refl, ap, ◌∙◌, inl, inr}
+use Rattle.std.proofs.Common.{◌≡◌, ℕ, Bool, true, false, cond, ltb, List, [], length, Some, None, Option, sym, refl, ap, ◌∙◌}
 use Rattle.model.specs.Lists.{last_of, head_or}
 use Rattle.model.specs.State as s
-use Rattle.model.specs.Settle.{mine, alive, new_ones, old_ones, ready_ones, to_end_lem, old_to_end, new_to_end}
+use Rattle.model.specs.Settle.{mine, ready_ones, old_to_end, new_to_end}
 use Rattle.jobs.specs.Rows.{span}
-use Rattle.settling.specs.Scan.{LastAt, OneAt, spares, pick_end, Tallied}
-use Rattle.settling.specs.declared.tally.Picks.{Picks}
+use Rattle.settling.specs.Scan.{LastAt, OneAt, pick_end, Tallied}
 use Rattle.settling.specs.declared.tally.Tally.{Tally}
 
 module _ (f : ℕ → List s.Task) (n : ℕ) where

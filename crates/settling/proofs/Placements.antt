@@ -1,7 +1,7 @@
 -- Tasks that wait are placed, row by row.
 -- Assumes nothing.
-use Rattle.std.proofs.Common.{◌≡◌, ℕ, zero, suc, ◌+◌, ◌-◌, ◌%◌, ◌<◌, ◌≤◌, min, Bool, true, false, cond, not, ◌&&◌, eqb, ◌⊎◌, List, [], ◌∷◌, ◌++◌, length, sym, refl, ap, ◌∙◌, subst, inl, inr, arith}
-use Rattle.std.proofs.lemmas.Bool.{cases_Bool, eq-eqb, ne_eqb}
+use Rattle.std.proofs.Common.{◌≡◌, ℕ, suc, ◌+◌, ◌-◌, ◌%◌, ◌<◌, ◌≤◌, min, Bool, true, false, cond, eqb, List, [], ◌∷◌, ◌++◌, length, sym, refl, ap, ◌∙◌, subst, inl, inr, arith}
+use Rattle.std.proofs.lemmas.Bool.{cases_Bool}
 use Rattle.model.specs.Lists.{keep}
 use Rattle.model.specs.State as s
 use Rattle.model.specs.State.{is_waiting, placed, with_tasks}
@@ -17,10 +17,10 @@ use Rattle.model.proofs.Settles.{Tidy, tidy_pass, tidy_unplaced, tidy_settle, or
 use Rattle.model.proofs.Acts.Good.{stay_good}
 use Rattle.jobs.specs.Layout.{home_words_lem}
 use Rattle.jobs.specs.Rows.{at, span}
-use Rattle.jobs.specs.Tables.{phase_from_lem, task_at, task_row_lem, task_rows_lem, tasks_of, tasks_before, tasks_behind, jobs_of, machines_of, machine_at, machine_row_lem, machine_from, state_of, TasksOnly, TaskPut, TasksNow}
+use Rattle.jobs.specs.Tables.{task_at, task_rows_lem, tasks_of, tasks_before, tasks_behind, jobs_of, machines_of, machine_at, machine_row_lem, machine_from, state_of, TasksOnly, TaskPut, TasksNow}
 use Rattle.jobs.specs.Changes.{place_each}
 use Rattle.jobs.proofs.Spans.{span_same, span_rest, span_end}
-use Rattle.jobs.proofs.Frames.{tasks_at, tasks_put, rows_kept, frame_none, frame_then, jobs_same, machines_same}
+use Rattle.jobs.proofs.Frames.{tasks_at, tasks_put, frame_none, frame_then, jobs_same, machines_same}
 use Rattle.settling.specs.Scan.{Numbered, Became}
 use Rattle.settling.specs.Place.{waits, PlacedRow}
 use Rattle.settling.proofs.Scans.{keep_none, keep_one, keep_append}

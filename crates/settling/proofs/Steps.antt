@@ -1,7 +1,7 @@
 -- A job's step, by the ways through it.
 -- Assumes nothing.
-use Rattle.std.proofs.Common.{◌≡◌, ℕ, ◌+◌, ◌<◌, ◌≤◌, Bool, true, false, cond, not, ◌&&◌, eqb, ltb, List, [], ◌∷◌, ◌++◌, length, Some, None, Option, sym, refl, ap, ◌∙◌, subst, inl, inr, arith}
-use Rattle.std.proofs.lemmas.Bool.{cases_Bool, eq-eqb, ne_eqb}
+use Rattle.std.proofs.Common.{◌≡◌, ℕ, ◌<◌, ◌≤◌, true, false, not, eqb, ltb, List, [], ◌∷◌, ◌++◌, length, Some, Option, sym, ap, ◌∙◌, subst}
+use Rattle.std.proofs.lemmas.Bool.{eq-eqb, ne_eqb}
 use Rattle.model.specs.Lists.{none}
 use Rattle.model.specs.State as s
 use Rattle.model.specs.State.{with_tasks}
@@ -12,8 +12,7 @@ use Rattle.jobs.specs.Rows.{at}
 use Rattle.jobs.specs.Tables.{task_at, task_rows_lem, tasks_of, tasks_before, tasks_behind, job_from_lem, job_row_lem, job_at, state_of, TasksOnly, TaskPut}
 use Rattle.jobs.specs.Changes.{end_each}
 use Rattle.jobs.proofs.Frames.{tasks_at, state_put, frame_none, frame_then}
-use Rattle.settling.specs.Scan.{Numbered, OneAt, Became, Tallied}
-use Rattle.settling.specs.declared.tally.Tally.{Tally}
+use Rattle.settling.specs.Scan.{Numbered, OneAt, Became}
 use Rattle.settling.proofs.Middles.{ended_mid}
 use Rattle.settling.proofs.Scans.{hole, full}
 

@@ -1,19 +1,18 @@
 -- All rows in turn.
 -- Assumes nothing.
-use Rattle.std.proofs.Common.{◌≡◌, ℕ, ◌+◌, ◌-◌, ◌<◌, ◌≤◌, min, Bool, true, false, cond, not, ◌&&◌, eqb, ltb, List, [], ◌∷◌, ◌++◌, length, sym, refl, ap, ◌∙◌, subst, inl, inr, arith}
+use Rattle.std.proofs.Common.{◌≡◌, ℕ, ◌+◌, ◌-◌, ◌<◌, ◌≤◌, true, false, List, [], ◌∷◌, ◌++◌, length, sym, refl, ap, ◌∙◌, subst, inl, inr, arith}
 use Rattle.std.proofs.lemmas.Bool.{cases_Bool}
 use Rattle.model.specs.Lists.{some, find, same}
 use Rattle.model.specs.State as s
 use Rattle.model.specs.State.{is_job, is_waiting, phased}
 use Rattle.model.specs.Settle.{orphans_end, for_job, for_jobs}
-use Rattle.model.proofs.Lists.Members.{In}
 use Rattle.model.proofs.Lists.Chosen.{find_none, not_some, some_from}
 use Rattle.model.proofs.Tasks.Names.{same_sym, unsame_sym}
 use Rattle.model.proofs.Tasks.Steps.{steps_are}
 use Rattle.model.proofs.Settles.{Tidy, tidy_step}
 use Rattle.model.proofs.Lists.Chosen.{find_in}
 use Rattle.jobs.specs.Layout.{home_words_lem}
-use Rattle.jobs.specs.Rows.{at, span}
+use Rattle.jobs.specs.Rows.{span}
 use Rattle.jobs.specs.Tables.{task_at, task_rows_lem, tasks_of, job_at, job_rows_lem, jobs_of, state_of, TasksOnly, TaskPut, TasksNow}
 use Rattle.jobs.specs.Changes.{end_each}
 use Rattle.jobs.proofs.Spans.{span_rest, span_end}

@@ -1,20 +1,20 @@
 -- One more row, and what is there of a job.
 -- Assumes nothing.
-use Rattle.std.proofs.Common.{◌≡◌, ℕ, zero, suc, ◌+◌, ◌%◌, ◌<◌, ◌≤◌, Bool, true, false, cond, not, ◌&&◌, ◌||◌, eqb, ◌⊎◌, List, [], ◌∷◌, ◌++◌, length, drop, Some, None, Option, sym, refl, ap, ◌∙◌, subst, inl, inr, arith}
+use Rattle.std.proofs.Common.{◌≡◌, ℕ, zero, suc, ◌+◌, ◌%◌, ◌≤◌, Bool, true, false, cond, not, ◌&&◌, ◌||◌, eqb, List, [], ◌∷◌, ◌++◌, length, drop, Some, None, Option, sym, refl, ap, ◌∙◌, inl, inr, arith}
 use mir.Val.{bool_byte}
 use Rattle.std.proofs.lemmas.List.{append-nil, length_push, length-append}
 use Rattle.std.proofs.lemmas.Bool.{cases_Bool, eq-eqb, ne_eqb}
-use Rattle.model.specs.Lists.{keep, last_of, some, same}
+use Rattle.model.specs.Lists.{keep, some, same}
 use Rattle.model.specs.State as s
 use Rattle.model.specs.State.{is_ready_lem, is_ending, is_waiting}
-use Rattle.model.specs.Settle.{mine, alive, new_ones, old_ones, ready_ones, sure}
+use Rattle.model.specs.Settle.{mine, alive, new_ones, old_ones, ready_ones}
 use Rattle.model.proofs.Lists.Kept.{keep_keep}
 use Rattle.jobs.specs.Rows.{at, span}
-use Rattle.jobs.specs.Tables.{name_from_lem, version_from_lem, spec_from_lem, phase_from_lem, task_from, task_row_lem, task_at, machines_of, state_of}
+use Rattle.jobs.specs.Tables.{name_from_lem, version_from_lem, phase_from_lem, task_from, task_row_lem, task_at, machines_of, state_of}
 use Rattle.jobs.proofs.Spans.{span_more, span_none}
 use Rattle.settling.specs.Scan.{is_present, is_mine, is_alive, is_new, is_old, is_spare, stepped, stepped_by, LastAt, spares, Tallied}
 use Rattle.settling.specs.declared.tally.Tally.{Tally}
-use Rattle.settling.proofs.Scans.{hole, full, keep_none, keep_yes, keep_no, length_keep, length_keep_push, last_push}
+use Rattle.settling.proofs.Scans.{hole, full, keep_yes, keep_no, length_keep, length_keep_push, last_push}
 
 module _ (f : ℕ → List s.Task) (i : ℕ) where
   more_one : (x : s.Task) → f i ≡ x ∷ [] → span f 0 (i + 1) ≡ span f 0 i ++ x ∷ []

@@ -1,18 +1,18 @@
 -- One more row, and what is on a machine.
 -- Assumes nothing.
-use Rattle.std.proofs.Common.{◌≡◌, ℕ, zero, suc, ◌+◌, ◌*◌, ◌%◌, ◌<◌, ◌≤◌, Bool, true, false, cond, not, ◌&&◌, ◌||◌, eqb, List, [], ◌∷◌, ◌++◌, length, get_or, drop, set, Some, None, Option, sym, refl, ap, ◌∙◌, subst, inl, inr, arith}
+use Rattle.std.proofs.Common.{◌≡◌, ℕ, zero, suc, ◌+◌, ◌*◌, ◌<◌, ◌≤◌, Bool, true, false, ◌||◌, eqb, List, [], ◌∷◌, ◌++◌, length, get_or, set, Some, None, sym, refl, ap, ◌∙◌, inl, inr, arith}
 use Rattle.std.proofs.lemmas.List.{append-nil, get_or-set_same, get_or-set_other, get_or_default}
-use Rattle.std.proofs.lemmas.Bool.{cases_Bool, cases_eq, cases_lt}
+use Rattle.std.proofs.lemmas.Bool.{cases_Bool, cases_eq}
 use Rattle.model.specs.Lists.{keep, some}
 use Rattle.model.specs.State as s
 use Rattle.model.specs.State.{is_waiting, of_job, on_machine, cpu_of, mem_of}
 use Rattle.jobs.specs.Rows.{at, span}
-use Rattle.jobs.specs.Tables.{task_at, task_row_lem, task_rows_lem, task_from, tasks_of, machine_rows_lem}
+use Rattle.jobs.specs.Tables.{task_at, task_row_lem, task_from, machine_rows_lem}
 use Rattle.jobs.proofs.Spans.{span_none, span_more}
 use Rattle.settling.specs.Place.{LoadBy, Loaded, weight_of, heavier, no_load, num_at}
 use Rattle.settling.specs.declared.load.Load.{Load}
 use Rattle.settling.specs.declared.load.Weight.{Weight}
-use Rattle.settling.proofs.Scans.{keep_none, keep_yes, keep_no, keep_append, some_none, some_one, some_append}
+use Rattle.settling.proofs.Scans.{keep_yes, keep_no, some_one, some_append}
 use Rattle.settling.proofs.Tallies.{row_few}
 
 cpu_push : (xs : List s.Task) (y : s.Task) → cpu_of (xs ++ y ∷ []) ≡ cpu_of xs + y.spec.cpu

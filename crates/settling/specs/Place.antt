@@ -1,6 +1,6 @@
 -- What is on each machine, and which machine takes a task.
 -- Assumes nothing.
-use Rattle.std.specs.Prelude.{◌≡◌, ℕ, ◌+◌, ◌%◌, ◌<◌, ◌≤◌, Bool, true, false, cond, not, ◌&&◌, ◌||◌, List, [], ◌∷◌, ◌++◌, length, Some, None, Option, MatchOption, ◌==◌, nat_eq, nat_le, nat_lt, slice_index_or}
+use Rattle.std.specs.Prelude.{◌≡◌, ℕ, ◌+◌, ◌%◌, ◌<◌, Bool, false, cond, not, ◌&&◌, ◌||◌, List, [], ◌∷◌, Some, None, Option, MatchOption, ◌==◌, nat_eq, nat_le, nat_lt, slice_index_or}
 use Rattle.model.specs.Lists.{some, keep}
 use Rattle.model.specs.State as s
 use Rattle.model.specs.State.{is_waiting, of_job, on_machine, cpu_of, mem_of}

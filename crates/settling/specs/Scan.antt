@@ -1,7 +1,7 @@
 -- What is there of a job, as one scan of the rows finds it.
 -- Assumes nothing.
-use Rattle.std.specs.Prelude.{◌≡◌, ℕ, ◌+◌, ◌<◌, ◌≤◌, Bool, true, false, cond, not, ◌&&◌, ◌||◌, List, [], ◌∷◌, ◌++◌, length, Some, None, Option, MatchOption, ◌==◌}
-use Rattle.model.specs.Lists.{keep, last_of, some}
+use Rattle.std.specs.Prelude.{◌≡◌, ℕ, ◌+◌, ◌<◌, Bool, cond, not, ◌&&◌, List, [], ◌∷◌, length, Some, None, Option, MatchOption, ◌==◌}
+use Rattle.model.specs.Lists.{keep, last_of}
 use Rattle.model.specs.State as s
 use Rattle.model.specs.State.{is_machine, is_ready_lem, is_ending, of_job}
 use Rattle.model.specs.Settle.{mine, alive, new_ones, old_ones, ready_ones, sure, present}

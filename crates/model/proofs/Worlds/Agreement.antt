@@ -1,6 +1,6 @@
 -- What holds between the herd, the words that were sent and each agent, and that it goes on holding where the herd keeps what an agent counts on, where an agent comes up risen, and where another agent says something.
 -- Assumes nothing.
-use Rattle.std.proofs.Common.{◌≡◌, ℕ, ◌+◌, ◌<◌, ◌≤◌, false, eqb, ◌⊎◌, List, [], ◌∷◌, sym, ◌∙◌, subst, inl, inr, arith}
+use Rattle.std.proofs.Common.{◌≡◌, ℕ, ◌<◌, ◌≤◌, false, eqb, ◌⊎◌, List, [], ◌∷◌, sym, ◌∙◌, subst, inl, inr, arith}
 use Rattle.std.proofs.lemmas.Bool.{eqb-true, eqb-false, cond_both}
 use Rattle.model.specs.State.{Machine, State}
 use Rattle.model.specs.Calls.{Seen, Order, seen_as}

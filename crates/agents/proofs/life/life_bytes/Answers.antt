@@ -1,4 +1,3 @@
-use Rattle.std.proofs.Common.{sym}
 use Rattle.octets.proofs.Numbers.{bytes_of_eight}
 use Rattle.agents.proofs.life.life_bytes.Goals as goal
 

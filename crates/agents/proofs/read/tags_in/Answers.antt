@@ -1,4 +1,4 @@
-use Rattle.std.proofs.Common.{◌≡◌, ℕ, [], length, take, refl, ◌∙◌, subst, arith, length-set}
+use Rattle.std.proofs.Common.{◌≡◌, ℕ, [], take, refl, ◌∙◌, subst, arith, length-set}
 use Rattle.model.specs.Wire.{tags_in_lem}
 use Rattle.agents.proofs.Orders.{tags_none, tags_more}
 use Rattle.agents.proofs.read.tags_in.Goals as goal

@@ -1,4 +1,3 @@
-use Rattle.std.proofs.Common.{◌≡◌}
 use Rattle.octets.proofs.Numbers.{bytes_of_eight}
 use Rattle.agents.proofs.report.task_bytes.Goals as goal
 

@@ -1,4 +1,4 @@
-use Rattle.std.proofs.Common.{false, is_ok, sym, refl, ap, ◌∙◌}
+use Rattle.std.proofs.Common.{false, is_ok, refl, ap}
 use Rattle.agents.specs.Memory.{seen_of}
 use Rattle.agents.proofs.Moving.{started_one_lem}
 use Rattle.agents.proofs.running.start_one.Goals as goal

@@ -1,6 +1,5 @@
-use Rattle.std.proofs.Common.{◌≡◌, ℕ, ◌+◌, ◌*◌, [], ◌∷◌, ◌++◌, sym, ap, ◌∙◌}
-use Rattle.lines.specs.Text.{hex_on, first, second}
-use Rattle.lines.proofs.Reading.{hex_first, hex_first_no, hex_second, hex_second_no}
+use Rattle.std.proofs.Common.{◌∷◌, ◌∙◌}
+use Rattle.lines.proofs.Reading.{hex_first, hex_first_no, hex_second_no}
 use Rattle.agents.proofs.Texts.{byte_read}
 use Rattle.agents.proofs.text.byte_of.Goals as goal
 

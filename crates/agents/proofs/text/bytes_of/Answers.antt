@@ -1,4 +1,4 @@
-use Rattle.std.proofs.Common.{◌≡◌, ℕ, List, sym, ap, ◌∙◌, arith}
+use Rattle.std.proofs.Common.{ℕ, List, sym, ap, ◌∙◌, arith}
 use Rattle.lines.specs.Text.{hex_on, first}
 use Rattle.agents.proofs.Texts.{two_more, pair_more, hex_odd, hex_even}
 use Rattle.agents.proofs.text.bytes_of.Goals as goal

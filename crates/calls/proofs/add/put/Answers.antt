@@ -1,5 +1,4 @@
-use Rattle.std.proofs.Common.{◌≡◌, ℕ, ◌/◌, ◌<◌, Bool, true, false, not, ◌||◌, ltb, List, [], ◌∷◌, ◌++◌, length, get_or, take, sym, refl, ap, ◌∙◌, subst, rules}
-use Rattle.model.specs.Lists.{find, none}
+use Rattle.std.proofs.Common.{◌≡◌, ℕ, ◌/◌, ◌<◌, true, false, not, ◌||◌, ltb, [], ◌∷◌, ◌++◌, length, get_or, take, sym, refl, ap, ◌∙◌, subst, rules}
 use Rattle.model.specs.State.{is_machine, with_machines}
 use Rattle.model.specs.Calls.{new_machine, yes'}
 use Rattle.jobs.specs.Tables.{machine_at, machine_rows_lem, machines_of, state_of}

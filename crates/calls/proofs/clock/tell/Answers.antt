@@ -1,7 +1,6 @@
-use Rattle.std.proofs.Common.{◌≡◌, ℕ, sym, refl, ap, ◌∙◌, inl, inr, arith}
-use Rattle.model.specs.State as s
+use Rattle.std.proofs.Common.{◌≡◌, ℕ, sym, refl, ap, ◌∙◌, inl, inr}
 use Rattle.model.specs.Settle.{settle}
-use Rattle.model.specs.Calls.{Out, Tick, acts, no, yes', timed}
+use Rattle.model.specs.Calls.{Tick, acts, no, yes', timed}
 use Rattle.jobs.specs.Tables.{state_of}
 use Rattle.calls.specs.declared.answer.Refusal.TheVariants.{Malformed}
 use Rattle.calls.proofs.Outcomes.{acted_no, acted_yes}

@@ -1,5 +1,5 @@
-use Rattle.std.proofs.Common.{◌≡◌, ℕ, List, [], sym, refl, ap, ◌∙◌, subst}
-use Rattle.model.specs.Calls.{Seen, seen_as}
+use Rattle.std.proofs.Common.{ℕ, sym, ap, ◌∙◌}
+use Rattle.model.specs.Calls.{seen_as}
 use Rattle.calls.specs.Meaning.{seens_of}
 use Rattle.calls.proofs.Hearing.{hear_other, hear_late, hear_gone, hear_ends, hear_told, hear_marked}
 use Rattle.calls.proofs.heard.heard_there.Goals as goal

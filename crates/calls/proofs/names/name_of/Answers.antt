@@ -1,4 +1,4 @@
-use Rattle.std.proofs.Common.{◌≡◌, ℕ, ◌<◌, List, [], ◌∷◌, length, get_or, sym, refl, ap, ◌∙◌, arith, rules}
+use Rattle.std.proofs.Common.{◌≡◌, ℕ, ◌<◌, [], ◌∷◌, length, get_or, ap, ◌∙◌, arith, rules}
 use Rattle.jobs.specs.Tables.{bytes_of}
 use Rattle.calls.proofs.Ranges.{name_ok_lem}
 use Rattle.calls.proofs.Naming.{named, words_of}

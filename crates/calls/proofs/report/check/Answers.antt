@@ -1,4 +1,4 @@
-use Rattle.std.proofs.Common.{◌≡◌, List, [], ◌∷◌, sym, refl, ap, ◌∙◌, arith}
+use Rattle.std.proofs.Common.{[], sym, ◌∙◌, arith}
 use Rattle.calls.proofs.Changes.{row_news}
 use Rattle.calls.proofs.News.{bad, unknown, stale, news, same_stale}
 use Rattle.calls.proofs.report.check.Goals as goal

@@ -1,4 +1,4 @@
-use Rattle.std.proofs.Common.{◌≡◌, sym, refl, ap, ◌∙◌}
+use Rattle.std.proofs.Common.{refl}
 use Rattle.calls.proofs.Outcomes.{acted_no, acted_run}
 use Rattle.calls.proofs.report.report.Goals as goal
 

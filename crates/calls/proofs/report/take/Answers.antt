@@ -1,4 +1,4 @@
-use Rattle.std.proofs.Common.{◌∙◌, arith, rules}
+use Rattle.std.proofs.Common.{◌∙◌, arith}
 use Rattle.calls.proofs.Noted.{within, noted_tidy, noted_long, noted_settled}
 use Rattle.calls.proofs.report.take.Goals as goal
 

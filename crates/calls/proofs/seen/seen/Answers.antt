@@ -1,4 +1,4 @@
-use Rattle.std.proofs.Common.{◌≡◌, sym, refl, ◌∙◌, arith}
+use Rattle.std.proofs.Common.{sym, refl, ◌∙◌}
 use Rattle.calls.proofs.Listed.{task_in, seen_here, seen_on, seen_none, seen_all}
 use Rattle.calls.proofs.seen.seen.Goals as goal
 

@@ -1,6 +1,6 @@
-use Rattle.std.proofs.Common.{◌≡◌, ℕ, ◌+◌, true, false, cond, List, [], ◌∷◌, sym, refl, ap, ◌∙◌, subst, arith, rules}
+use Rattle.std.proofs.Common.{◌≡◌, ◌+◌, true, false, cond, sym, refl, ap, ◌∙◌, subst}
 use Rattle.model.specs.State as s
-use Rattle.model.specs.Calls.{reset_job_lem, same_spec_lem}
+use Rattle.model.specs.Calls.{same_spec_lem}
 use Rattle.jobs.specs.Tables.{job_from_lem}
 use Rattle.jobs.specs.Values.{job_of, name_of, spec_of}
 use Rattle.calls.specs.Versions.{none_left_lem}

@@ -1,4 +1,4 @@
-use Rattle.std.proofs.Common.{sym, refl, ◌∙◌}
+use Rattle.std.proofs.Common.{sym, ◌∙◌}
 use Rattle.jobs.specs.Values.{job_of}
 use Rattle.calls.proofs.Sets.{add_full, adds}
 use Rattle.calls.proofs.setting.set_new.Goals as goal

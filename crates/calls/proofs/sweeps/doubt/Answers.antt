@@ -1,4 +1,4 @@
-use Rattle.std.proofs.Common.{◌≡◌, List, map, ap, subst, arith}
+use Rattle.std.proofs.Common.{List, map, subst, arith}
 use Rattle.model.specs.State as s
 use Rattle.model.specs.Calls.{unsure}
 use Rattle.jobs.specs.Tables.{TaskPut, machines_of, task_at}

@@ -1,10 +1,7 @@
-use Rattle.std.proofs.Common.{◌≡◌, Bool, false, not, ◌&&◌, List, [], ◌∷◌, map, sym, refl, ap, ◌∙◌, subst}
-use Rattle.model.specs.Lists.{some}
-use Rattle.model.specs.State as s
+use Rattle.std.proofs.Common.{false, map, sym, ap, ◌∙◌}
 use Rattle.model.specs.Calls.{unsure}
 use Rattle.jobs.specs.Tables.{machines_of}
 use Rattle.jobs.specs.Changes.{mark_each}
-use Rattle.settling.specs.Scan.{is_present}
 use Rattle.settling.proofs.Tallies.{row_hole}
 use Rattle.calls.proofs.Doubting.{doubt_it, doubt_not, same_test}
 use Rattle.calls.proofs.Sweep.{put_same}

@@ -1,4 +1,4 @@
-use Rattle.std.proofs.Common.{arith, rules}
+use Rattle.std.proofs.Common.{arith}
 use Rattle.calls.proofs.Hearing.{hear_each}
 use Rattle.calls.proofs.Sweep.{swept_none, swept_more, swept_all}
 use Rattle.calls.proofs.sweeps.hear.Goals as goal

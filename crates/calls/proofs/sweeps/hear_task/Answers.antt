@@ -1,13 +1,8 @@
-use Rattle.std.proofs.Common.{◌≡◌, ℕ, ◌+◌, List, [], ◌∷◌, sym, refl, ap, ◌∙◌, subst}
-use Rattle.model.specs.State as s
+use Rattle.std.proofs.Common.{[], sym, ap, ◌∙◌}
 use Rattle.model.specs.Calls.{heard_all}
-use Rattle.jobs.specs.Rows.{at}
-use Rattle.jobs.specs.Tables.{TaskPut, task_at, task_from, task_row_lem, phase_from_lem}
 use Rattle.jobs.specs.Changes.{mark_each}
-use Rattle.jobs.specs.Values.{life_of, machine_of, phase_of}
-use Rattle.settling.proofs.Tallies.{row_full, row_hole}
+use Rattle.settling.proofs.Tallies.{row_hole}
 use Rattle.calls.specs.Meaning.{seens_of}
-use Rattle.calls.specs.Heard.{HeardAs}
 use Rattle.calls.proofs.Hearing.{hear_none}
 use Rattle.calls.proofs.Sweep.{put_same}
 use Rattle.calls.proofs.TaskIn.{changed, put_as}

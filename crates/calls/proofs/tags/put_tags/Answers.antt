@@ -1,5 +1,4 @@
-use Rattle.std.proofs.Common.{◌≡◌, length, take, sym, refl, ap, ◌∙◌, arith, rules}
-use Rattle.model.specs.Wire.{tags_in_lem}
+use Rattle.std.proofs.Common.{arith, rules}
 use Rattle.calls.proofs.TagBytes.{tags_none, tags_more, tags_all}
 use Rattle.calls.proofs.tags.put_tags.Goals as goal
 

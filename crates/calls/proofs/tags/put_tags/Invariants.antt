@@ -1,4 +1,4 @@
-use Rattle.std.proofs.Common.{◌≡◌, length, take}
+use Rattle.std.proofs.Common.{◌≡◌, take}
 use Rattle.model.specs.Wire.{tags_in_lem}
 use Rattle.calls.proofs.tags.put_tags.Given as goal
 

@@ -1,10 +1,9 @@
-use Rattle.std.proofs.Common.{◌≡◌, ℕ, min, eqb, take, sym, ap, ◌∙◌, inl, inr, rules}
+use Rattle.std.proofs.Common.{eqb, sym, ◌∙◌, inl, inr}
 use Rattle.std.proofs.lemmas.Bool.{eq-eqb, ne_eqb}
-use Rattle.model.specs.Lists.{same}
 use Rattle.model.specs.Calls.{alike}
 use Rattle.jobs.specs.Rows.{at}
 use Rattle.jobs.specs.Tables.{low, flag}
-use Rattle.calls.proofs.KindTags.{tags_at, beq_alike, unlike_not, spec_counts, spec_not}
+use Rattle.calls.proofs.KindTags.{unlike_not, spec_counts, spec_not}
 use Rattle.calls.proofs.versions.same_spec.Goals as goal
 use Rattle.calls.proofs.versions.same_spec.Goals.{then-spec-image-via-then-spec-image, then-spec-image-via-else-spec-image+then-spec-cpu, then-spec-image-via-else-spec-image+else-spec-cpu+then-spec-mem, then-spec-image-via-else-spec-image+else-spec-cpu+else-spec-mem+then-spec-apart}
 

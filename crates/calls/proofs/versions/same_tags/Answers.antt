@@ -1,4 +1,4 @@
-use Rattle.std.proofs.Common.{◌≡◌, ℕ, ◌≤◌, min, length, sym, ap, ◌∙◌, arith, rules}
+use Rattle.std.proofs.Common.{◌≡◌, min, length, sym, ◌∙◌, arith, rules}
 use Rattle.jobs.specs.Rows.{at}
 use Rattle.calls.proofs.KindTags.{front_length, front_other, front_same, tags_at, length_tags_at, tag_of}
 use Rattle.calls.proofs.versions.same_tags.Goals as goal

@@ -1,4 +1,4 @@
-use Rattle.std.proofs.Common.{◌≡◌, ℕ, ◌<◌, ◌≤◌, ◌⊎◌, length, get_or, sym, refl, ap, ◌∙◌, inl, inr, arith, rules}
+use Rattle.std.proofs.Common.{◌≡◌, ◌<◌, ◌⊎◌, inl, inr, arith}
 use Rattle.calls.specs.Meaning.{like_of}
 use Rattle.calls.proofs.Ranges.{job_ok_lem, bytes_ok}
 use Rattle.calls.proofs.wanted.job_of.Goals as goal

@@ -1,6 +1,4 @@
-use Rattle.std.proofs.Common.{◌≡◌, ℕ, ◌/◌, ◌<◌, ◌≤◌, List, length, get_or, take, sym, refl, ap, ◌∙◌, inl, inr, arith, rules}
-use Rattle.std.proofs.lemmas.List.{get_or-take}
-use Rattle.model.specs.State as s
+use Rattle.std.proofs.Common.{ℕ, ◌/◌, ◌<◌, length, get_or, inl, inr, arith, rules}
 use Rattle.calls.specs.Meaning.{like_of, tags_of}
 use Rattle.calls.proofs.Ranges.{spec_ok, spec_bad, length_tags, small_tags}
 use Rattle.calls.proofs.wanted.spec_of.Goals as goal

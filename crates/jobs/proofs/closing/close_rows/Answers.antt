@@ -1,7 +1,5 @@
-use Rattle.std.proofs.Common.{◌≡◌, ℕ, ◌+◌, ◌*◌, ◌<◌, ◌≤◌, length, take, drop, sym, ap, ◌∙◌, arith, rules}
-use Rattle.std.proofs.lemmas.List.{get_or-take, get_or-drop}
+use Rattle.std.proofs.Common.{sym, ◌∙◌, arith}
 use Rattle.std.proofs.lemmas.Nat.{mul-le}
-use Rattle.jobs.specs.Rows.{at, row_at}
 use Rattle.jobs.proofs.Words.{row_before}
 use Rattle.jobs.proofs.HoleLaws.{closing_none, closing_hole, closing_move, closing_all, first_word}
 use Rattle.jobs.proofs.closing.close_rows.Goals as goal

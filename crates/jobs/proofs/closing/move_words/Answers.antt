@@ -1,4 +1,4 @@
-use Rattle.std.proofs.Common.{◌≡◌, ℕ, subst, arith, rules}
+use Rattle.std.proofs.Common.{◌≡◌, ℕ, subst, arith}
 use Rattle.jobs.proofs.HoleLaws.{Moving, moving_none, moving_more, moving_all}
 use Rattle.jobs.proofs.closing.move_words.Goals as goal
 

@@ -1,4 +1,4 @@
-use Rattle.std.proofs.Common.{◌≡◌, ℕ, List, refl, ap, ◌∙◌, arith, rules}
+use Rattle.std.proofs.Common.{ℕ, List, ap, ◌∙◌, arith, rules}
 use Rattle.jobs.specs.Rows.{at}
 use Rattle.jobs.specs.Tables.{job_from_lem}
 use Rattle.jobs.proofs.Back.{Sized, job_back, version_there}

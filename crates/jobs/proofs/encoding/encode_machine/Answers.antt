@@ -1,6 +1,5 @@
-use Rattle.std.proofs.Common.{◌≡◌, ℕ, List, ◌∷◌, length, take, drop, refl, ap, ◌∙◌, rules}
+use Rattle.std.proofs.Common.{ℕ, List, ◌∷◌, refl, ap, ◌∙◌, rules}
 use Rattle.jobs.specs.Tables.{machine_from}
-use Rattle.jobs.specs.Values.{machine_words}
 use Rattle.jobs.proofs.Back.{SizedMachine, machine_back, sixteen}
 use Rattle.jobs.proofs.encoding.encode_machine.Goals as goal
 

@@ -1,4 +1,4 @@
-use Rattle.std.proofs.Common.{◌≡◌, sym, ap, ◌∙◌, arith}
+use Rattle.std.proofs.Common.{sym, ap, ◌∙◌, arith}
 use Rattle.model.specs.State.{is_job}
 use Rattle.jobs.specs.Rows.{at}
 use Rattle.jobs.specs.Tables.{job_at, job_from_lem, job_slot, job_rows_lem}

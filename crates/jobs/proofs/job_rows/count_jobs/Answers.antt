@@ -1,4 +1,4 @@
-use Rattle.std.proofs.Common.{◌≡◌, ℕ, ◌+◌, List, [], ◌∷◌, length, sym, ap, ◌∙◌, arith, rules}
+use Rattle.std.proofs.Common.{◌≡◌, ℕ, ◌+◌, [], ◌∷◌, length, sym, ap, ◌∙◌, arith}
 use Rattle.jobs.specs.Rows.{at, span}
 use Rattle.jobs.specs.Tables.{job_at, job_from_lem, job_slot, job_rows_lem}
 use Rattle.jobs.proofs.Spans.{span_none}

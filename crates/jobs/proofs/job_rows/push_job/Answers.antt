@@ -1,4 +1,4 @@
-use Rattle.std.proofs.Common.{◌≡◌, length, sym, ◌∙◌, arith, rules}
+use Rattle.std.proofs.Common.{◌≡◌, length, arith, rules}
 use Rattle.jobs.specs.Values.{job_of}
 use Rattle.jobs.proofs.JobLaws.{job_pushed}
 use Rattle.jobs.proofs.job_rows.push_job.Goals as goal

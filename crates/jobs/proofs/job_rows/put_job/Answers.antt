@@ -1,4 +1,4 @@
-use Rattle.std.proofs.Common.{◌≡◌, ℕ, ◌<◌, length, sym, ◌∙◌, arith, rules}
+use Rattle.std.proofs.Common.{◌≡◌, length, arith, rules}
 use Rattle.jobs.specs.Values.{job_of}
 use Rattle.jobs.proofs.JobLaws.{job_put}
 use Rattle.jobs.proofs.job_rows.put_job.Goals as goal

@@ -1,5 +1,5 @@
-use Rattle.std.proofs.Common.{◌≡◌, true, false, ltb, length, sym, refl, ap, ◌∙◌, arith, rules}
-use Rattle.std.proofs.lemmas.Bool.{lt-ltb, le-ltb, true≢false}
+use Rattle.std.proofs.Common.{length, sym, arith}
+use Rattle.std.proofs.lemmas.Bool.{lt-ltb, true≢false}
 use Rattle.jobs.specs.Tables.{machines_of}
 use Rattle.jobs.proofs.MachineLaws.{machines_then}
 use Rattle.jobs.proofs.machine_rows.add_machine.Goals as goal

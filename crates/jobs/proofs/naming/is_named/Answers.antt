@@ -1,4 +1,4 @@
-use Rattle.std.proofs.Common.{◌≡◌, min, take, drop, sym, ap, ◌∙◌, arith, rules}
+use Rattle.std.proofs.Common.{min, take, drop, sym, arith, rules}
 use Rattle.jobs.specs.Rows.{at}
 use Rattle.jobs.proofs.Names.{other_length, other_byte, same_bytes}
 use Rattle.jobs.proofs.naming.is_named.Goals as goal

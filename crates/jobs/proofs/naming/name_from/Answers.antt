@@ -1,4 +1,4 @@
-use Rattle.std.proofs.Common.{◌≡◌, ℕ, List, take, drop, ap, ◌∙◌}
+use Rattle.std.proofs.Common.{ℕ, take, drop, ap, ◌∙◌}
 use Rattle.jobs.specs.Tables.{bytes_of}
 use Rattle.jobs.proofs.Names.{name_words}
 use Rattle.jobs.proofs.naming.name_from.Goals as goal

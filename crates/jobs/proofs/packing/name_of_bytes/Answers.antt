@@ -1,4 +1,4 @@
-use Rattle.std.proofs.Common.{◌≡◌, ℕ, ◌<◌, length, refl, arith}
+use Rattle.std.proofs.Common.{ℕ, ◌<◌, length, refl, arith}
 use Rattle.jobs.specs.Rows.{at}
 use Rattle.jobs.proofs.Packs.{name_packed}
 use Rattle.jobs.proofs.packing.name_of_bytes.Goals as goal

@@ -1,6 +1,6 @@
-use Rattle.std.proofs.Common.{◌≡◌, ℕ, ◌+◌, ◌%◌, cond, eqb, List, [], ◌∷◌, drop, sym, refl, ap, ◌∙◌}
+use Rattle.std.proofs.Common.{ℕ, ◌+◌, List, sym, refl, ap, ◌∙◌}
 use Rattle.jobs.specs.Rows.{at}
-use Rattle.jobs.specs.Tables.{task_row_lem, task_from, task_slot, version_from_lem, spec_from_lem, phase_from_lem}
+use Rattle.jobs.specs.Tables.{task_from, task_slot, version_from_lem, spec_from_lem}
 use Rattle.jobs.proofs.Finds.{slot_hole, slot_full}
 use Rattle.jobs.proofs.reading.read_task.Goals as goal
 

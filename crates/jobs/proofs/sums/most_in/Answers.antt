@@ -1,4 +1,4 @@
-use Rattle.std.proofs.Common.{◌≡◌, true, false, sym, ◌∙◌}
+use Rattle.std.proofs.Common.{true, false, sym, ◌∙◌}
 use Rattle.jobs.specs.Values.{name_of}
 use Rattle.jobs.proofs.Darkness.{most_hole, most_one}
 use Rattle.jobs.proofs.sums.most_in.Goals as goal

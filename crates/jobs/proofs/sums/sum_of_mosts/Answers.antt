@@ -1,4 +1,4 @@
-use Rattle.std.proofs.Common.{◌≡◌, ℕ, List, sym, ap, ◌∙◌, arith, rules}
+use Rattle.std.proofs.Common.{◌≡◌, ℕ, List, ap, ◌∙◌, arith}
 use Rattle.model.specs.Calls.{all_most, others}
 use Rattle.jobs.specs.Rows.{span}
 use Rattle.jobs.specs.Tables.{job_at, job_slot, job_rows_lem}

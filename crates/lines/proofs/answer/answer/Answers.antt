@@ -1,5 +1,5 @@
 use Rattle.std.proofs.Common.{◌≡◌, ℕ, List, sym, ap, ◌∙◌}
-use Rattle.model.specs.Memory.{Doing, done}
+use Rattle.model.specs.Memory.{done}
 use Rattle.model.specs.State.{blank}
 use Rattle.model.specs.Lines.{answer_line, no_kind}
 use Rattle.lines.specs.Held.{Holds}

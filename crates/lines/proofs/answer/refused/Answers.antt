@@ -1,4 +1,4 @@
-use Rattle.std.proofs.Common.{◌≡◌, sym, ap, ◌∙◌}
+use Rattle.std.proofs.Common.{sym}
 use Rattle.lines.proofs.Refusing.{refused_bytes}
 use Rattle.lines.proofs.answer.refused.Goals as goal
 

@@ -1,4 +1,4 @@
-use Rattle.std.proofs.Common.{◌≡◌, ℕ, ◌+◌, ◌*◌, List, [], ◌∷◌, ◌++◌, length, sym, ap, ◌∙◌, arith}
+use Rattle.std.proofs.Common.{ℕ, ◌+◌, ◌*◌, List, ◌∷◌, ◌++◌, length, ap, ◌∙◌, arith}
 use Rattle.lines.specs.Text.{hex_text}
 use Rattle.lines.proofs.Hexing.{four_set, four_length, end_set}
 use Rattle.lines.proofs.hex.say.Goals as goal

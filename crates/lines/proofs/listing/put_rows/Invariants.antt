@@ -1,4 +1,4 @@
-use Rattle.std.proofs.Common.{ℕ, ◌+◌, ◌*◌, ◌≤◌}
+use Rattle.std.proofs.Common.{◌+◌, ◌*◌, ◌≤◌}
 use Rattle.jobs.specs.Rows.{span}
 use Rattle.jobs.specs.Tables.{task_at}
 use Rattle.lines.specs.Listings.{Lists}

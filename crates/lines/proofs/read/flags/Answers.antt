@@ -1,4 +1,4 @@
-use Rattle.std.proofs.Common.{◌≡◌, ◌∙◌, arith}
+use Rattle.std.proofs.Common.{◌∙◌}
 use Rattle.lines.proofs.Parsing.{flags_good, flags_bad, flags_none, flags_all}
 use Rattle.lines.proofs.read.flags.Goals as goal
 

@@ -1,4 +1,4 @@
-use Rattle.std.proofs.Common.{◌≡◌, [], ap, ◌∙◌}
+use Rattle.std.proofs.Common.{[], ap, ◌∙◌}
 use Rattle.lines.specs.declared.stage.Stage.{Stage}
 use Rattle.lines.specs.Resume.{resume, number_in}
 use Rattle.lines.specs.Text.{time_line_lem}

@@ -1,5 +1,3 @@
-use Rattle.std.proofs.Common.{◌≡◌, sym, ap, ◌∙◌}
-use Rattle.model.specs.Wire.{bytes_of}
 use Rattle.octets.proofs.Numbers.{bytes_of_four, bytes_of_eight, length_bytes_of}
 use Rattle.lines.proofs.reader.time_line.Goals as goal
 

@@ -1,4 +1,4 @@
-use Rattle.std.proofs.Common.{◌≡◌, ℕ, [], ◌∷◌, sym, ap, arith, rules}
+use Rattle.std.proofs.Common.{ℕ, [], ◌∷◌, sym, ap, rules}
 use Rattle.model.specs.Wire.{answer_bytes}
 use Rattle.jobs.specs.Tables.{state_of}
 use Rattle.calls.specs.Answers.{answer_of}

@@ -1,4 +1,4 @@
-use Rattle.std.proofs.Common.{arith, rules}
+use Rattle.std.proofs.Common.{rules}
 use Rattle.jobs.specs.Tables.{tasks_of}
 use Rattle.lines.proofs.Listings.{orders_list}
 use Rattle.lines.proofs.Writing.{puts_then, puts_as}

@@ -1,4 +1,4 @@
-use Rattle.std.proofs.Common.{arith, rules}
+use Rattle.std.proofs.Common.{rules}
 use Rattle.model.specs.Lists.{keep}
 use Rattle.model.specs.State.{of_job}
 use Rattle.jobs.specs.Tables.{tasks_of}

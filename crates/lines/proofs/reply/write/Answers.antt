@@ -1,4 +1,4 @@
-use Rattle.std.proofs.Common.{◌≡◌, ℕ, refl, arith, rules}
+use Rattle.std.proofs.Common.{ℕ, refl, arith, rules}
 use Rattle.model.specs.Wire.{answer_bytes}
 use Rattle.model.specs.Lines.{framed}
 use Rattle.jobs.specs.Tables.{state_of}

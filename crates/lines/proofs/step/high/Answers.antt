@@ -1,4 +1,4 @@
-use Rattle.std.proofs.Common.{◌≡◌, ℕ, sym, ap, ◌∙◌}
+use Rattle.std.proofs.Common.{ℕ, sym, ap, ◌∙◌}
 use Rattle.lines.specs.Text.{hex_on, second, bytes_or}
 use Rattle.lines.proofs.Reading.{hex_first, hex_first_no}
 use Rattle.lines.proofs.step.high.Goals as goal

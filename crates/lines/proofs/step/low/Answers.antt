@@ -1,4 +1,4 @@
-use Rattle.std.proofs.Common.{◌≡◌, ℕ, ◌+◌, ◌*◌, [], ◌∷◌, ◌++◌, sym, ap, ◌∙◌}
+use Rattle.std.proofs.Common.{ℕ, ◌+◌, ◌*◌, [], ◌∷◌, ◌++◌, sym, ap, ◌∙◌}
 use Rattle.lines.specs.Text.{hex_on, first, bytes_or}
 use Rattle.lines.proofs.Reading.{hex_second, hex_second_no}
 use Rattle.lines.proofs.step.low.Goals as goal

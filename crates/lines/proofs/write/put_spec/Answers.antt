@@ -1,4 +1,4 @@
-use Rattle.std.proofs.Common.{arith, rules}
+use Rattle.std.proofs.Common.{rules}
 use Rattle.lines.proofs.Writing.{puts_spec}
 use Rattle.lines.proofs.write.put_spec.Goals as goal
 

@@ -1,4 +1,4 @@
-use Rattle.std.proofs.Common.{◌≡◌, length, ap, arith, rules}
+use Rattle.std.proofs.Common.{ap, arith}
 use Rattle.std.proofs.lemmas.List.{take_all}
 use Rattle.model.specs.Wire.{tag_bytes}
 use Rattle.lines.proofs.Writing.{tags_none, tags_more, puts_as}

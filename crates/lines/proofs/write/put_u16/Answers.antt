@@ -1,4 +1,4 @@
-use Rattle.std.proofs.Common.{◌≡◌, ℕ, ◌+◌, ◌-◌, length, take, drop, refl, ap, ◌∙◌}
+use Rattle.std.proofs.Common.{ℕ, ◌+◌, ◌-◌, length, take, drop, refl, ap, ◌∙◌}
 use Rattle.model.specs.Wire.{bytes_of}
 use Rattle.lines.proofs.Writing.{puts_number}
 use Rattle.lines.proofs.write.put_u16.Goals as goal

@@ -1,5 +1,4 @@
-use Rattle.std.proofs.Common.{◌≡◌, ◌≤◌, length, drop, sym, ◌∙◌, arith}
-use Rattle.model.specs.Wire.{bytes_of}
+use Rattle.std.proofs.Common.{◌∙◌, arith}
 use Rattle.octets.proofs.Numbers.{put_none, put_more, put_all}
 use Rattle.octets.proofs.number.put.Goals as goal
 

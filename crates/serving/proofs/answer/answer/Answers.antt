@@ -1,4 +1,4 @@
-use Rattle.std.proofs.Common.{◌≡◌, length, rules, arith}
+use Rattle.std.proofs.Common.{◌≡◌, length, rules}
 use Rattle.serving.specs.Herd.{held_by}
 use Rattle.serving.proofs.Standing.{herd_right, herd_runs}
 use Rattle.serving.proofs.Answering.{serves}

@@ -1,6 +1,5 @@
-use Rattle.std.proofs.Common.{◌≡◌, ℕ, Bool, List, sym, refl, ap, ◌∙◌, subst}
-use Rattle.model.specs.Calls.{Call}
-use Rattle.model.specs.Wire.{Read, read_call, garbled, meant}
+use Rattle.std.proofs.Common.{Bool, sym, refl, ap, ◌∙◌, subst}
+use Rattle.model.specs.Wire.{read_call}
 use Rattle.model.specs.Lines.{call_in}
 use Rattle.calls.specs.Meaning.{call_of}
 use Rattle.lines.specs.Overlong.{LongerAs}

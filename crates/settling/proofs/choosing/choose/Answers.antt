@@ -1,4 +1,4 @@
-use Rattle.std.proofs.Common.{◌≡◌, ℕ, ◌-◌, true, false, List, [], ◌∷◌, length, get_or, sym, refl, ap, ◌∙◌, subst, arith, rules}
+use Rattle.std.proofs.Common.{◌≡◌, ℕ, ◌-◌, true, false, List, [], ◌∷◌, get_or, sym, ap, ◌∙◌, arith, rules}
 use Rattle.model.specs.Lists.{keep, every}
 use Rattle.model.specs.State as s
 use Rattle.model.specs.Settle.{takes, best, left}

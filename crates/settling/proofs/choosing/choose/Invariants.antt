@@ -1,5 +1,5 @@
 use Rattle.std.proofs.Common.{◌≡◌, drop}
-use Rattle.model.specs.Lists.{some, every, keep}
+use Rattle.model.specs.Lists.{every, keep}
 use Rattle.model.specs.Settle.{takes, best}
 use Rattle.jobs.specs.Rows.{at, span}
 use Rattle.jobs.specs.Tables.{machine_at, machine_from, machine_row_lem, machine_rows_lem, tasks_of}

@@ -1,4 +1,4 @@
-use Rattle.std.proofs.Common.{◌≡◌, min, eqb, map, drop, sym, ap, ◌∙◌, arith, rules}
+use Rattle.std.proofs.Common.{min, eqb, map, drop, sym, ◌∙◌, arith}
 use Rattle.std.proofs.lemmas.Bool.{eq-eqb, ne_eqb}
 use Rattle.jobs.specs.Rows.{at}
 use Rattle.jobs.specs.Tables.{low}

@@ -1,4 +1,4 @@
-use Rattle.std.proofs.Common.{◌≡◌, ℕ, ◌+◌, Bool, true, false, cond, sym, ap, ◌∙◌, rules}
+use Rattle.std.proofs.Common.{◌≡◌, ◌+◌, true, false, sym, ap, ◌∙◌, rules}
 use mir.Val.{bool_byte}
 use Rattle.model.specs.State.{is_ending}
 use Rattle.jobs.specs.Values.{job_of, phase_of, machine_of}

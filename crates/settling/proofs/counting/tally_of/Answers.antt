@@ -1,4 +1,4 @@
-use Rattle.std.proofs.Common.{◌≡◌, sym, refl, arith, rules}
+use Rattle.std.proofs.Common.{refl, arith}
 use Rattle.jobs.specs.Tables.{task_at, state_of}
 use Rattle.jobs.specs.Values.{job_of}
 use Rattle.settling.proofs.Tallies.{tallied_none, tallied_more, tallied_few, row_few}

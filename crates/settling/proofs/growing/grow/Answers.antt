@@ -1,4 +1,4 @@
-use Rattle.std.proofs.Common.{◌≡◌, true, sym, ◌∙◌, rules}
+use Rattle.std.proofs.Common.{◌≡◌, true, rules}
 use Rattle.model.specs.Settle.{may_grow_lem}
 use Rattle.jobs.specs.Tables.{state_of}
 use Rattle.jobs.specs.Values.{job_of}

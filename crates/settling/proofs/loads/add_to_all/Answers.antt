@@ -1,4 +1,4 @@
-use Rattle.std.proofs.Common.{◌≡◌, ℕ, ◌%◌, List, get_or, sym, ap, ◌∙◌, subst, arith, rules}
+use Rattle.std.proofs.Common.{ℕ, ◌%◌, List, get_or, ap, ◌∙◌, arith}
 use Rattle.jobs.specs.Rows.{at}
 use Rattle.settling.specs.Place.{heavier, no_load}
 use Rattle.settling.proofs.Weighs.{adding_none, adding_more}

@@ -1,4 +1,4 @@
-use Rattle.std.proofs.Common.{◌≡◌, ℕ, List, [], sym, ap, ◌∙◌, subst, arith, rules}
+use Rattle.std.proofs.Common.{◌≡◌, ℕ, [], subst, arith, rules}
 use Rattle.jobs.specs.Rows.{span}
 use Rattle.jobs.specs.Tables.{task_at, task_rows_lem}
 use Rattle.jobs.specs.Values.{name_of}

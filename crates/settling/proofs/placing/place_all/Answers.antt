@@ -1,4 +1,4 @@
-use Rattle.std.proofs.Common.{◌≡◌, ℕ, ◌<◌, min, ap, ◌∙◌, arith, rules}
+use Rattle.std.proofs.Common.{◌≡◌, ℕ, min, ap, arith, rules}
 use Rattle.jobs.specs.Tables.{task_rows_lem}
 use Rattle.settling.proofs.Placements.{placing_none, placing_more, placing_all}
 use Rattle.settling.proofs.placing.place_all.Goals as goal

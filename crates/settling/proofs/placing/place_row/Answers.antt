@@ -1,8 +1,8 @@
-use Rattle.std.proofs.Common.{◌≡◌, ℕ, ◌+◌, true, false, List, [], ◌∷◌, sym, ap, ◌∙◌, rules}
+use Rattle.std.proofs.Common.{◌≡◌, ℕ, ◌+◌, true, List, sym, ap, ◌∙◌}
 use Rattle.std.proofs.lemmas.Bool.{eq-eqb, ne_eqb}
 use Rattle.model.specs.State.{is_waiting}
 use Rattle.jobs.specs.Rows.{at}
-use Rattle.jobs.specs.Tables.{task_row_lem, task_at, phase_from_lem}
+use Rattle.jobs.specs.Tables.{task_row_lem}
 use Rattle.jobs.proofs.TaskRows.{waits, waits_not}
 use Rattle.settling.specs.Place.{task_in}
 use Rattle.settling.proofs.Tallies.{row_full, row_hole}

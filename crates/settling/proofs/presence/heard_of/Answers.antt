@@ -1,4 +1,4 @@
-use Rattle.std.proofs.Common.{◌≡◌, sym, ap, ◌∙◌, arith, rules}
+use Rattle.std.proofs.Common.{sym, ap, ◌∙◌, arith, rules}
 use Rattle.model.specs.Lists.{some}
 use Rattle.jobs.specs.Tables.{machine_at, machine_rows_lem}
 use Rattle.jobs.proofs.Spans.{span_none}

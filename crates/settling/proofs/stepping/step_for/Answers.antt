@@ -1,6 +1,6 @@
-use Rattle.std.proofs.Common.{◌≡◌, true, false, ltb, [], length, Some, None, sym, refl, ap, ◌∙◌, arith, rules}
+use Rattle.std.proofs.Common.{◌≡◌, true, false, ltb, [], length, Some, None, sym, refl, ap, ◌∙◌, rules}
 use Rattle.model.specs.Settle.{mine, alive, new_ones, old_to_end, new_to_end}
-use Rattle.jobs.specs.Tables.{task_at, task_rows_lem, tasks_of, job_from_lem, job_row_lem, state_of}
+use Rattle.jobs.specs.Tables.{task_at, task_rows_lem, tasks_of, job_from_lem, state_of}
 use Rattle.jobs.specs.Values.{job_of}
 use Rattle.jobs.proofs.Frames.{job_row_same}
 use Rattle.settling.specs.Scan.{OneAt}

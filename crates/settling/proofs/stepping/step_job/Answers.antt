@@ -1,4 +1,3 @@
-use Rattle.std.proofs.Common.{◌≡◌, rules}
 use Rattle.jobs.specs.Values.{job_of}
 use Rattle.settling.proofs.Steps.{became_job, became_none}
 use Rattle.settling.proofs.stepping.step_job.Goals as goal

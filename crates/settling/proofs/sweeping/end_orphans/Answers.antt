@@ -1,4 +1,4 @@
-use Rattle.std.proofs.Common.{arith, rules}
+use Rattle.std.proofs.Common.{arith}
 use Rattle.settling.proofs.Sweeps.{sweeping_none, sweeping_more, sweeping_all}
 use Rattle.settling.proofs.sweeping.end_orphans.Goals as goal
 

@@ -1,4 +1,4 @@
-use Rattle.std.proofs.Common.{◌≡◌, sym, ap, ◌∙◌, arith}
+use Rattle.std.proofs.Common.{arith}
 use Rattle.std.proofs.lemmas.Bool.{leb-true}
 use Rattle.settling.proofs.Numbers.{risen_none, risen_hole, risen_more, risen_all}
 use Rattle.settling.proofs.tests.is_numbered.Goals as goal

@@ -1,4 +1,4 @@
-use Rattle.std.proofs.Common.{arith, rules}
+use Rattle.std.proofs.Common.{rules}
 use Rattle.calls.proofs.Keeping.{acted_sound}
 use Rattle.calls.proofs.Soundness.{sound_fine}
 use Rattle.calls.proofs.mind.Mind.set.Goals as goal

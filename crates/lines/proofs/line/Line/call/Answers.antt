@@ -1,4 +1,4 @@
-use Rattle.std.proofs.Common.{◌≡◌, ℕ, ◌-◌, ◌^◌, ◌<◌, min, List, length, take, drop, sym, ap, ◌∙◌, arith, rules}
+use Rattle.std.proofs.Common.{◌≡◌, ℕ, ◌^◌, ◌<◌, min, List, length, take, arith, rules}
 use Rattle.lines.proofs.Holding.{call_short, call_misframed, call_held}
 use Rattle.octets.proofs.Numbers.{length_take_under}
 use Rattle.lines.proofs.line.Line.call.Goals.{then-self, else-self, then-self-lt8-via-then-self-lt8, then-self-lt8-via-else-self-lt8+then-value-self}

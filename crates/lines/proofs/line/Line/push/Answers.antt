@@ -1,5 +1,5 @@
-use Rattle.std.proofs.Common.{◌≡◌, ℕ, ◌+◌, min, List, [], ◌∷◌, ◌++◌, length, set, sym, ap, ◌∙◌, subst, arith, rules}
-use Rattle.lines.specs.Held.{Holds, room}
+use Rattle.std.proofs.Common.{◌≡◌, ℕ, ◌+◌, min, List, [], ◌∷◌, ◌++◌, length, sym, subst, rules}
+use Rattle.lines.specs.Held.{Holds}
 use Rattle.lines.specs.declared.line.Line.{Line}
 use Rattle.lines.proofs.Holding.{holds_more, holds_past}
 use Rattle.lines.proofs.line.Line.push.Goals.{then-self, else-self}

@@ -1,4 +1,4 @@
-use Rattle.std.proofs.Common.{◌≡◌, ap, ◌∙◌, arith, rules}
+use Rattle.std.proofs.Common.{ap, ◌∙◌, arith, rules}
 use Rattle.model.specs.Wire.{phase_of}
 use Rattle.jobs.specs.Tables.{version_from_lem}
 use Rattle.lines.proofs.Listings.{line_out, line_in}

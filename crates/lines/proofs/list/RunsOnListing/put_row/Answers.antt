@@ -1,4 +1,4 @@
-use Rattle.std.proofs.Common.{◌≡◌, ap, ◌∙◌, arith, rules}
+use Rattle.std.proofs.Common.{ap, ◌∙◌, arith, rules}
 use Rattle.jobs.specs.Tables.{spec_from_lem}
 use Rattle.lines.proofs.Listings.{order_out, order_in_lem}
 use Rattle.lines.proofs.list.RunsOnListing.put_row.Goals as goal
