@@ -25,8 +25,8 @@ lay_out() {
         sed 's/^refuted :/pub refuted :/' "$here/$1.txt"
     } > "$crate/proofs/Mistake.antt"
     echo 'pub mod Mistake' > "$crate/proofs/Lib.antt"
-    printf 'use Rattle·model·proofs.Mistake.{refuted}\nuse Rattle·model·proofs.refuted.Needs as need\n\npub returns : need.returns\nreturns c = refuted\n' > "$crate/proofs/refuted/Answers.antt"
-    printf 'ghost use Rattle·model·specs.%s.{%s};\n\npub fn refuted() -> u8\n    ensures { λ _. ⌜ (%s → ⊥) ⌝ }\n{\n    0\n}\n' "$module" "$promise" "$promise" > "$crate/src/lib.rt"
+    printf 'use Rattle.model.proofs.Mistake.{refuted}\nuse Rattle.model.proofs.refuted.Goals as goal\n\npub returns : goal.returns\nreturns c = refuted\n' > "$crate/proofs/refuted/Answers.antt"
+    printf '#![tactic(auto)]\nghost use Rattle.model.specs.%s.{%s};\n\npub fn refuted() -> u8\n    ensures { %s → ⊥ }\n{\n    0\n}\n' "$module" "$promise" "$promise" > "$crate/src/lib.rt"
 }
 
 plant() {
@@ -36,7 +36,7 @@ plant() {
     printf '%s\n' "${text/"$old"/"$new"}" > "$file"
 }
 
-proved() { (cd "$work" && RT_JOBS=1 rt dev model 2>&1) | grep -q '^fn model::refuted: proved$'; }
+proved() { (cd "$crate" && RT_JOBS=1 rt check 2>&1) | grep '^fn model::refuted: proved$' >/dev/null; }
 
 names=("$@")
 [[ $# -gt 0 ]] || names=($(cd "$here" && ls -- *.edit | sed 's/\.edit$//'))
