@@ -67,6 +67,7 @@ impl Mind {
     {
         Answer::Lines(name)
     }
+
     // Any call, by its kind.
     pub fn act<'a>(&mut self, call: Call<'a>) -> Answer<'a>
         ensures { Handled (call_of call.entry) self.old.home self.old.live self.old.time result self.new.home self.new.live self.new.time }

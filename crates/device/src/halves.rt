@@ -67,7 +67,7 @@ fn copy<K: Kept>(words: &mut K, from: usize, home: &[u64]) -> Result<(), Dark>
 // Reads as many words from there as there is room for.
 fn read<K: Kept>(words: &K, from: usize, home: &mut [u64])
     requires { from + length home.old ≤ 262144 }
-    ensures { (j : ℕ) → j < length home.old → slice_index home.new j ≡ (K.word words.now) (from + j) }
+    ensures { (j : ℕ) → j < length home.old → slice_index home.new j ≡ K.word words.now (from + j) }
 {
     for i in 0..home.len() {
         home[i] = words.load(from + i);
@@ -93,7 +93,7 @@ impl Places {
 
     fn read_held<K: Kept>(self, words: &K, home: &mut [u64])
         requires { (self.held + length home.old ≤ 262144) × (self.spare + length home.old ≤ 262144) }
-        ensures { (j : ℕ) → j < length home.old → slice_index home.new j ≡ (K.word words.now) (self.held + j) }
+        ensures { (j : ℕ) → j < length home.old → slice_index home.new j ≡ K.word words.now (self.held + j) }
     {
         read(words, self.held, home);
     }

@@ -1,5 +1,5 @@
 -- Lists by tests: what is kept, changed, found and counted, and passes over lists. All that the parts below have is passed on from here.
--- The lemmas that carry most: pass-from and pass-to (where an element of a pass came from, and where one goes), pass_up and pass-down (counts through a pass), once-pass.
+-- The lemmas that carry most: pass_from and pass_to (where an element of a pass came from, and where one goes), pass_up and pass_down (counts through a pass), once_pass.
 -- Assumes nothing.
 pub mod Tests
 pub mod Members

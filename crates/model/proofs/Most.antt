@@ -6,7 +6,7 @@ use Rattle.model.specs.Lists.{keep, find, change, same}
 use Rattle.model.specs.State.{Name, Spec, Job, Task, State, is_job, of_job, on_machine, with_tasks}
 use Rattle.model.specs.Settle.{mine, alive, new_ones, may_grow_lem, more, ended, fresh, for_job, orphans_end, unplaced, settle}
 use Rattle.model.specs.Calls.{Call, SetJob, EndJob, AddMachine, Close, Reopen, Forget, Report, Tick, Show, No, Yes, Out, new_job, reset_job_lem, later, does, down}
-use Rattle.model.specs.Promise.{NeverMore, all_ok, Raises, IsSet}
+use Rattle.model.specs.Promise.{NeverMore, all_ok, Raises, SetsAJob}
 use Rattle.model.specs.Always.{Raised, Spares}
 use Rattle.model.proofs.Lists.{to_true, from_true, clash, bool, In, in_from, in_to, in_end, find_none, in_keep, bump, keep_end, keep_nothing, Pass, pass_change, pass_from, pass_down}
 use Rattle.model.proofs.Tasks.{same_eq, eq_same, orphans_pass, MayEnd, step_is, steps_are}
@@ -155,7 +155,7 @@ raises (Raises.set n a c l m s p q) = (p, q)
 pub never_more_lem : NeverMore
 never_more_lem c s g a r = let h = fit_from s s.jobs (to_true _ a) in from_true _ (fit_to (does c s).state (does c s).state.jobs (λ j i. fit_does j.name c s (fine_from s g) (λ k ki e. h k ki) (spares j.name c r) j i refl))
   where
-    spares : (n : Name) (d : Call) → (IsSet d → Raises d s) → Spares n d s
+    spares : (n : Name) (d : Call) → (SetsAJob d → Raises d s) → Spares n d s
     spares n (SetJob k b q l m) z = λ e y. subst (λ (v : Name). Raised v m s) e (raises (z (k, b, q, l, m, refl)))
     spares n (EndJob k) z = tt
     spares n (AddMachine k q m tags) z = tt

@@ -1,5 +1,5 @@
 -- Room on machines. All that the parts below have is passed on from here.
--- The lemmas that carry most: weigh-cons, seen-within (different ones that run, each one of these tasks, need no more than the tasks), takes-less, waits-for-room.
+-- The lemmas that carry most: weigh_cons, seen_within (different ones that run, each one of these tasks, need no more than the tasks), takes_less, waits_for_room_lem.
 -- Assumes nothing.
 pub mod Weights
 pub mod Free

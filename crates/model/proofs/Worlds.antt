@@ -1,5 +1,5 @@
 -- The herd with its agents: what holds in every world that is reached. All that the parts below have is passed on from here.
--- The lemmas that carry most: inv-reach (the invariant), agrees-keeps, agrees-hears, put_is (one agent of many), runs_on and one_place (what runs is a task on that machine, and on no other).
+-- The lemmas that carry most: inv_reach (the invariant), agrees_keeps, agrees_hears, put_is (one agent of many), runs_on and one_place (what runs is a task on that machine, and on no other).
 -- Assumes nothing.
 pub mod Agreement
 pub mod Agents

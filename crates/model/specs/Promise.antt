@@ -107,11 +107,11 @@ all_ok s (j ∷ js) = nat_le (length (mine j s.tasks)) j.most && all_ok s js
 pub data Raises : Call → State → Type 0 where
   set : (n : Name) (a : Spec) (c l m : ℕ) (s : State) → ((j : Job) → Memᴰ j s.jobs → j.name ≡ n → j.most ≤ m) → ((t : Task) → Memᴰ t s.tasks → t.job ≡ n → (j : Job) × Memᴰ j s.jobs × (j.name ≡ n)) → Raises (SetJob n a c l m) s
 
-abbrev pub IsSet : Call → Type 0
-IsSet c = (n : Name) × (a : Spec) × (k : ℕ) × (l : ℕ) × (m : ℕ) × (c ≡ SetJob n a k l m)
+abbrev pub SetsAJob : Call → Type 0
+SetsAJob c = (n : Name) × (a : Spec) × (k : ℕ) × (l : ℕ) × (m : ℕ) × (c ≡ SetJob n a k l m)
 
 abbrev pub NeverMore : Type 0
-NeverMore = (c : Call) (s : State) → Good s → T (all_ok s s.jobs) → (IsSet c → Raises c s) → T (all_ok (does c s).state (does c s).state.jobs)
+NeverMore = (c : Call) (s : State) → Good s → T (all_ok s s.jobs) → (SetsAJob c → Raises c s) → T (all_ok (does c s).state (does c s).state.jobs)
 
 -- d. A pass never takes a ready task away where that would leave fewer ready than are to stay.
 abbrev pub LeastStay : Type 0

@@ -17,14 +17,14 @@ use jobs::tasks::end_task;
 
 // Are more ready than are to stay.
 fn enough_ready(job: &Job, tally: &Tally) -> bool
-    ensures { result ≡ nat_lt job.now.least tally.entry.now.ready }
+    ensures { result ≡ nat_lt job.now.least tally.now.ready }
 {
     (job.least as usize) < tally.ready
 }
 
 // Are there more of the present version than are wanted.
 fn too_many(job: &Job, tally: &Tally) -> bool
-    ensures { result ≡ nat_lt job.now.count tally.entry.now.new }
+    ensures { result ≡ nat_lt job.now.count tally.now.new }
 {
     (job.count as usize) < tally.new
 }

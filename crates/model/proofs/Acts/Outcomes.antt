@@ -1,4 +1,4 @@
--- Calls by their outcomes: what holds of every refusal, and of what each call leaves when its pass is done, holds of the call. Other proofs know calls by does-is, and not by their text.
+-- Calls by their outcomes: what holds of every refusal, and of what each call leaves when its pass is done, holds of the call. Other proofs know calls by does_is, and not by their text.
 -- Assumes nothing.
 use Rattle.std.proofs.Common.{◌≡◌, ℕ, ◌+◌, true, false, not, ◌&&◌, ◌||◌, eqb, ltb, leb, List, [], ◌∷◌, ◌++◌, length, refl}
 use Rattle.std.proofs.lemmas.Bool.{not-false, cond_both}

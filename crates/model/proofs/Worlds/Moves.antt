@@ -26,11 +26,11 @@ inv_start =
 -- Why each step keeps it.
 -- says: the herd keeps each machine's number, life and last report, adds only machines that were not there (for which nothing is ordered), and leaves on a machine what is on it (Keeps).
 -- falls: the same; only readiness and who was heard of are lost.
--- forgets, comesUp: the agent's life rises above that of every word sent, and it has nothing ordered, so any herd agrees with it; the others keep theirs.
+-- forgets, comes_up: the agent's life rises above that of every word sent, and it has nothing ordered, so any herd agrees with it; the others keep theirs.
 -- reports: the new word lists all that is ordered; every answer so far is to an earlier number, so none counts any more.
 -- hears: the report was news. If it is of an earlier life, the machine was not of this life, so nothing is ordered. Otherwise it lists all that is ordered, so nothing of that is taken for gone; an answer to an
 --   earlier report is not to the last one; the new answer orders only what is on the machine. Of the other machines nothing changes.
--- hearsNot: nothing changes.
+-- hears_not: nothing changes.
 -- obeyed: the answer orders only what is on the machine; its report was taken, so no report of this life that was sent is still news.
 -- starts, becomes, dies: what runs is ordered, each once.
 pub inv_step : {w v : World} → Inv w → Step w v → Inv v
