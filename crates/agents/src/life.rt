@@ -4,7 +4,7 @@ ghost use Rattle.model.specs.Wire.{meant};
 ghost use Rattle.agents.specs.LifeFile.{Reads, Rises, life_bytes_lem, read_life_lem};
 
 use jobs::ids::Life;
-use octets::field::u64_at;
+use octets::field::number_at;
 
 // The last life that an agent may have, as the herd takes none above it.
 pub const LAST: u64 = 4_611_686_018_427_387_904;
@@ -23,8 +23,8 @@ fn read_life(bytes: &[u8]) -> Option<Life>
     if bytes.len() != 16 {
         return None;
     }
-    let life = u64_at(bytes, 0);
-    if life != u64_at(bytes, 8) || life == 0 || life > LAST {
+    let life = number_at::<u64>(bytes, 0);
+    if life != number_at(bytes, 8) || life == 0 || life > LAST {
         return None;
     }
     Some(Life(life))

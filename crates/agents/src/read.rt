@@ -11,7 +11,7 @@ use crate::heard::{Heard, Run};
 use crate::order::Order;
 use jobs::ids::{Life, MachineId, ReportNumber, TaskId};
 use jobs::spec::Spec;
-use octets::field::{u16_at, u32_at, u64_at};
+use octets::field::number_at;
 use std::alloc::Global;
 
 // Orders, if bytes are such.
@@ -29,7 +29,7 @@ fn tags_in(bytes: &[u8], count: usize) -> [u32; 8]
 {
     let mut tags = [0u32; 8];
     for i in 0..count {
-        tags[i] = u32_at(bytes, 4 * i);
+        tags[i] = number_at(bytes, 4 * i);
     }
     tags
 }
@@ -43,9 +43,9 @@ fn spec_in(bytes: &[u8], count: u8) -> Spec
 {
     let tags = count as usize;
     Spec {
-        image: u32_at(bytes, 0),
-        cpu: u32_at(bytes, 4),
-        mem: u32_at(bytes, 8),
+        image: number_at(bytes, 0),
+        cpu: number_at(bytes, 4),
+        mem: number_at(bytes, 8),
         apart: bytes[13 + 4 * tags] == 1,
         count,
         tags: tags_in(&bytes[13..], tags),
@@ -64,7 +64,7 @@ fn order_in(bytes: &[u8]) -> Option<Order>
         return None;
     }
     Some(Order {
-        task: TaskId(u64_at(bytes, 0)),
+        task: TaskId(number_at(bytes, 0)),
         spec: spec_in(&bytes[8..], count),
     })
 }
@@ -97,12 +97,12 @@ fn read_run(heap: Global, rest: &[u8]) -> Heard
     if rest.len() < 20 {
         return Heard::Other;
     }
-    match orders_in(heap, &rest[20..], u16_at(rest, 18)) {
+    match orders_in(heap, &rest[20..], number_at(rest, 18)) {
         Orders::Whole(orders) => Heard::Run(Run {
             head: Head {
-                machine: MachineId(u16_at(rest, 0)),
-                life: Life(u64_at(rest, 2)),
-                number: ReportNumber(u64_at(rest, 10)),
+                machine: MachineId(number_at(rest, 0)),
+                life: Life(number_at(rest, 2)),
+                number: ReportNumber(number_at(rest, 10)),
             },
             orders,
         }),
@@ -129,7 +129,7 @@ pub fn read_answer(heap: Global, bytes: &[u8]) -> Heard
 pub fn unframed(line: &[u8]) -> &[u8]
     ensures { result.now ≡ call_in line.now }
 {
-    if line.len() < 8 || u32_at(line, 0) as usize + 4 != line.len() {
+    if line.len() < 8 || number_at::<u32>(line, 0) as usize + 4 != line.len() {
         return &line[0..0];
     }
     &line[8..]

@@ -3,7 +3,7 @@ ghost use Rattle.std.specs.Prelude.{◌≡◌, ℕ, ◌≤◌, length, take};
 ghost use Rattle.calls.specs.Wanted.{NamedAs};
 
 use jobs::name::Name;
-use octets::field::u64_at;
+use octets::field::number_at;
 
 fn padded(bytes: &[u8]) -> [u8; 64]
     requires { length bytes.now ≤ 64 }
@@ -25,14 +25,14 @@ pub fn name_of(bytes: &[u8]) -> Option<Name>
     Some(Name {
         len: bytes.len() as u8,
         words: [
-            u64_at(&all, 0),
-            u64_at(&all, 8),
-            u64_at(&all, 16),
-            u64_at(&all, 24),
-            u64_at(&all, 32),
-            u64_at(&all, 40),
-            u64_at(&all, 48),
-            u64_at(&all, 56),
+            number_at(&all, 0),
+            number_at(&all, 8),
+            number_at(&all, 16),
+            number_at(&all, 24),
+            number_at(&all, 32),
+            number_at(&all, 40),
+            number_at(&all, 48),
+            number_at(&all, 56),
         ],
     })
 }

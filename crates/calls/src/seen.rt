@@ -5,14 +5,14 @@ ghost use Rattle.calls.specs.Meaning.{seens_of};
 ghost use Rattle.calls.specs.Seen.{SeenAs};
 
 use jobs::ids::TaskId;
-use octets::field::u64_at;
+use octets::field::number_at;
 
 // Whether it is listed, and then whether it is ready; the first place counts.
 pub fn seen(tasks: &[u8], id: TaskId) -> Option<bool>
     ensures { SeenAs (seen_as id.0 (seens_of tasks.now)) result }
 {
     for i in 0..tasks.len() / 9 {
-        if u64_at(tasks, 9 * i) == id.0 {
+        if number_at::<u64>(tasks, 9 * i) == id.0 {
             return Some(tasks[9 * i + 8] == 1);
         }
     }

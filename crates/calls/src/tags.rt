@@ -2,7 +2,7 @@
 ghost use Rattle.std.specs.Prelude.{◌≡◌, ℕ, ◌/◌, ◌≤◌, length, take};
 ghost use Rattle.calls.specs.Meaning.{tags_of};
 
-use octets::field::u32_at;
+use octets::field::number_at;
 
 // Writes the tags to the front; what is behind them doesn't count.
 pub fn put_tags(out: &mut [u32], tags: &[u8])
@@ -11,6 +11,6 @@ pub fn put_tags(out: &mut [u32], tags: &[u8])
     ensures long { length out.new ≡ length out.old }
 {
     for a in 0..tags.len() / 4 {
-        out[a] = u32_at(tags, 4 * a);
+        out[a] = number_at(tags, 4 * a);
     }
 }

@@ -7,7 +7,7 @@ ghost use Rattle.lines.specs.Reads.{Named, Numbered, ReadAs};
 
 use calls::call::{Added, Call, Likeness, Reported, Wanted};
 use jobs::ids::{Life, MachineId, ReportNumber};
-use octets::field::{u16_at, u32_at, u64_at};
+use octets::field::number_at;
 
 // A name behind its length.
 fn named(rest: &[u8]) -> Option<&[u8]>
@@ -25,7 +25,7 @@ fn numbered(rest: &[u8]) -> Option<MachineId>
     if rest.len() != 2 {
         return None;
     }
-    Some(MachineId(u16_at(rest, 0)))
+    Some(MachineId(number_at(rest, 0)))
 }
 
 fn read_end(rest: &[u8]) -> Option<Call<'_>>
@@ -79,7 +79,7 @@ fn read_time(rest: &[u8]) -> Option<Call<'_>>
     if rest.len() != 8 {
         return None;
     }
-    Some(Call::Time(u64_at(rest, 0)))
+    Some(Call::Time(number_at(rest, 0)))
 }
 
 fn read_add(rest: &[u8]) -> Option<Call<'_>>
@@ -89,9 +89,9 @@ fn read_add(rest: &[u8]) -> Option<Call<'_>>
         return None;
     }
     Some(Call::Add(Added {
-        machine: MachineId(u16_at(rest, 0)),
-        cpu: u32_at(rest, 2),
-        mem: u32_at(rest, 6),
+        machine: MachineId(number_at(rest, 0)),
+        cpu: number_at(rest, 2),
+        mem: number_at(rest, 6),
         tags: &rest[11..],
     }))
 }
@@ -111,7 +111,7 @@ fn flags(tasks: &[u8]) -> bool
 fn read_report(rest: &[u8]) -> Option<Call<'_>>
     ensures { ReadAs (read_report_lem rest.now) result }
 {
-    if rest.len() < 20 || rest.len() - 20 != 9 * u16_at(rest, 18) as usize {
+    if rest.len() < 20 || rest.len() - 20 != 9 * number_at::<u16>(rest, 18) as usize {
         return None;
     }
     let tasks = &rest[20..];
@@ -119,9 +119,9 @@ fn read_report(rest: &[u8]) -> Option<Call<'_>>
         return None;
     }
     Some(Call::Report(Reported {
-        machine: MachineId(u16_at(rest, 0)),
-        life: Life(u64_at(rest, 2)),
-        number: ReportNumber(u64_at(rest, 10)),
+        machine: MachineId(number_at(rest, 0)),
+        life: Life(number_at(rest, 2)),
+        number: ReportNumber(number_at(rest, 10)),
         tasks,
     }))
 }
@@ -133,9 +133,9 @@ fn likeness(bytes: &[u8], tags: usize) -> Likeness<'_>
 {
     let end = 13 + 4 * tags;
     Likeness {
-        image: u32_at(bytes, 0),
-        cpu: u32_at(bytes, 4),
-        mem: u32_at(bytes, 8),
+        image: number_at(bytes, 0),
+        cpu: number_at(bytes, 4),
+        mem: number_at(bytes, 8),
         tags: &bytes[13..end],
         apart: bytes[end] == 1,
     }
@@ -158,9 +158,9 @@ fn read_set(rest: &[u8]) -> Option<Call<'_>>
     Some(Call::Set(Wanted {
         name: &rest[1..1 + name],
         like: likeness(&rest[1 + name..], tags),
-        count: u16_at(rest, name + 4 * tags + 15),
-        least: u16_at(rest, name + 4 * tags + 17),
-        most: u16_at(rest, name + 4 * tags + 19),
+        count: number_at(rest, name + 4 * tags + 15),
+        least: number_at(rest, name + 4 * tags + 17),
+        most: number_at(rest, name + 4 * tags + 19),
     }))
 }
 

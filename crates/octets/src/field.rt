@@ -1,26 +1,88 @@
-// Numbers that stand at a place in bytes.
-ghost use Rattle.std.specs.Prelude.{◌≡◌, ◌+◌, ◌≤◌, length};
+// Numbers that stand at a place in bytes, of any of the widths that there are.
+ghost use Rattle.std.specs.Prelude.{◌≡◌, ℕ, ◌+◌, ◌*◌, ◌^◌, ◌<◌, ◌≤◌, length};
+ghost use Rattle.std.proofs.Common.{rules};
 ghost use Rattle.model.specs.Wire.{field};
 
 use crate::number::value;
 
-pub fn u16_at(bytes: &[u8], at: usize) -> u16
-    requires { at + 2 ≤ length bytes.now }
-    ensures { result ≡ field 2 at bytes.now }
-{
-    value(&bytes[at..at + 2]) as u16
+// A number of so many bytes.
+pub trait Number: Copy {
+    ghost WIDTH: { ℕ };
+
+    const WIDTH: usize;
+
+    // The number that it is.
+    ghost num: { Self → ℕ };
+
+    // The number, if it fits.
+    fn narrow(n: u64) -> Self
+        requires { n < 256 ^ WIDTH }
+        ensures { num result ≡ n };
+
+    fn widen(self) -> u64
+        ensures { result ≡ num self };
+
+    ghost few: { WIDTH ≤ 8 };
 }
 
-pub fn u32_at(bytes: &[u8], at: usize) -> u32
-    requires { at + 4 ≤ length bytes.now }
-    ensures { result ≡ field 4 at bytes.now }
-{
-    value(&bytes[at..at + 4]) as u32
+impl Number for u16 {
+    ghost WIDTH = { 2 };
+
+    const WIDTH: usize = 2;
+
+    ghost num = { λ n. n };
+
+    fn narrow(n: u64) -> u16 {
+        n as u16
+    }
+
+    fn widen(self) -> u64 {
+        u64::from(self)
+    }
+
+    ghost few = { Prim.search rules };
 }
 
-pub fn u64_at(bytes: &[u8], at: usize) -> u64
-    requires { at + 8 ≤ length bytes.now }
-    ensures { result ≡ field 8 at bytes.now }
+impl Number for u32 {
+    ghost WIDTH = { 4 };
+
+    const WIDTH: usize = 4;
+
+    ghost num = { λ n. n };
+
+    fn narrow(n: u64) -> u32 {
+        n as u32
+    }
+
+    fn widen(self) -> u64 {
+        u64::from(self)
+    }
+
+    ghost few = { Prim.search rules };
+}
+
+impl Number for u64 {
+    ghost WIDTH = { 8 };
+
+    const WIDTH: usize = 8;
+
+    ghost num = { λ n. n };
+
+    fn narrow(n: u64) -> u64 {
+        n
+    }
+
+    fn widen(self) -> u64 {
+        self
+    }
+
+    ghost few = { Prim.search rules };
+}
+
+// The number that stands there.
+pub fn number_at<T: Number>(bytes: &[u8], at: usize) -> T
+    requires { at + T.WIDTH ≤ length bytes.now }
+    ensures { T.num result ≡ field T.WIDTH at bytes.now }
 {
-    value(&bytes[at..at + 8])
+    T::narrow(value(&bytes[at..at + T::WIDTH]))
 }

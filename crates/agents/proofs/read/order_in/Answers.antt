@@ -6,7 +6,7 @@ pub returns : goal.returns
 returns c =
     record {
       fits = order_fits_lem c.args.bytes.now c.if-bytes-count.false c.if-count-gt8.false c.if-bytes-count-gt1.false;
-      value = order_read c.args.bytes.now _ _ c.u64_at.ensures c.spec_in.ensures.value;
+      value = order_read c.args.bytes.now _ _ c.number_at.ensures c.spec_in.ensures.value;
       count = c.spec_in.ensures.count;
       within = omega (arith, c.spec_in.ensures.count, c.if-bytes-count.false);
     }

@@ -3,4 +3,4 @@ use Rattle.agents.proofs.Orders.{spec_read}
 use Rattle.agents.proofs.read.spec_in.Goals as goal
 
 pub returns : goal.returns
-returns c = record { value = spec_read c.args.count c.args.bytes.now _ _ _ _ _ c.u32_at.ensures c.u32_at-2.ensures c.u32_at-3.ensures refl c.tags_in.ensures; count = refl }
+returns c = record { value = spec_read c.args.count c.args.bytes.now _ _ _ _ _ c.number_at.ensures c.number_at-2.ensures c.number_at-3.ensures refl c.tags_in.ensures; count = refl }
