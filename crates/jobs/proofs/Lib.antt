@@ -14,3 +14,4 @@ pub mod Darkness
 pub mod Packs
 pub mod FoundLaws
 pub mod SweepLaws
+pub mod Ranges

@@ -9,7 +9,7 @@ use crate::closing::{close_rows, put_words};
 use crate::encoding::encode_job;
 use crate::job::Job;
 use crate::layout::*;
-use crate::rows::{job_row, job_rows as rows_in_use};
+use crate::rows::JOBS;
 
 // The job in row `i` is that one now.
 pub fn put_job(home: &mut [u64], i: usize, job: Job)
@@ -35,13 +35,7 @@ pub fn count_jobs(home: &[u64]) -> usize
     requires { home_words_lem ≤ length home.now }
     ensures { result ≡ length (jobs_of home.now) }
 {
-    let mut count = 0;
-    for i in 0..rows_in_use(home) {
-        if job_row(home, i)[0] != 0 {
-            count += 1;
-        }
-    }
-    count
+    JOBS.count(home)
 }
 
 // Closes the holes between jobs.
@@ -50,7 +44,7 @@ fn close_jobs(home: &mut [u64])
     ensures now { JobsNow (jobs_of home.old) home.old home.new }
     ensures rows { job_rows_lem home.new ≡ length (jobs_of home.old) }
 {
-    let n = rows_in_use(home);
+    let n = JOBS.in_use(home);
     let mut none = [0; 256];
     let count = close_rows(home, &mut none, JOB_BASE, JOB_WIDTH, n);
     home[JOB_ROWS] = count as u64;
@@ -62,7 +56,7 @@ fn make_job_room(home: &mut [u64])
     ensures now { JobsNow (jobs_of home.old) home.old home.new }
     ensures free { length (jobs_of home.old) < 256 → job_rows_lem home.new < 256 }
 {
-    if rows_in_use(home) == MAX_JOBS {
+    if JOBS.in_use(home) == MAX_JOBS {
         close_jobs(home);
     }
 }
@@ -73,7 +67,7 @@ fn push_job(home: &mut [u64], job: Job)
     requires free { job_rows_lem home.old < 256 }
     ensures { JobsNow (jobs_of home.old ++ job_of job ∷ []) home.old home.new }
 {
-    let n = rows_in_use(home);
+    let n = JOBS.in_use(home);
     let words = encode_job(job);
     put_words(home, JOB_BASE + n * JOB_WIDTH, &words);
     home[JOB_ROWS] = n as u64 + 1;

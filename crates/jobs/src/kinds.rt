@@ -6,67 +6,81 @@ ghost use Rattle.jobs.specs.Values.{spec_of, job_of};
 
 use crate::ids::Version;
 use crate::job::Job;
-use crate::naming::name_from;
+use crate::rows::{JobRow, Kind, Row, TaskRow};
 use crate::spec::Spec;
 
 // The low half of a word.
 pub fn low_half(w: u64) -> u32
     ensures { result ≡ low w }
 {
-    (w % 4294967296) as u32
+    (w % 4_294_967_296) as u32
 }
 
-// The version in a kind.
-pub fn version_from(kind: &[u64]) -> Version
-    requires { length kind.now ≡ 23 }
-    ensures { result.0 ≡ version_from_lem kind.now }
-{
-    Version(low_half(kind[0]))
-}
+impl<'a> JobRow<'a> {
+    pub fn kind(self) -> Kind<'a>
+        ensures { result.words.now ≡ take 23 self.entry.words.now }
+    {
+        Row {
+            words: &self.words[..23],
+        }
+    }
 
-fn tags_from(kind: &[u64]) -> [u32; 8]
-    requires { length kind.now ≡ 23 }
-    ensures { result ≡ map low (take 8 (drop 6 kind.now)) }
-{
-    [
-        low_half(kind[6]),
-        low_half(kind[7]),
-        low_half(kind[8]),
-        low_half(kind[9]),
-        low_half(kind[10]),
-        low_half(kind[11]),
-        low_half(kind[12]),
-        low_half(kind[13]),
-    ]
-}
+    // The job, if the row isn't a hole.
+    pub fn job(self) -> Job
+        ensures { job_of result ≡ job_from_lem self.entry.words.now }
+    {
+        let kind = self.kind();
+        Job {
+            name: kind.name(),
+            version: kind.version(),
+            spec: kind.spec(),
+            count: (self.words[23] % 65536) as u16,
+            least: (self.words[24] % 65536) as u16,
+            most: self.most(),
+        }
+    }
 
-// The spec in a kind.
-pub fn spec_from(kind: &[u64]) -> Spec
-    requires { length kind.now ≡ 23 }
-    ensures { spec_of result ≡ spec_from_lem kind.now }
-{
-    Spec {
-        image: low_half(kind[1]),
-        cpu: low_half(kind[2]),
-        mem: low_half(kind[3]),
-        apart: kind[4] != 0,
-        count: kind[5].min(8) as u8,
-        tags: tags_from(kind),
+    // How many tasks the job may have.
+    pub fn most(self) -> u16
+        ensures { result ≡ at self.entry.words.now 25 % 65536 }
+    {
+        (self.words[25] % 65536) as u16
     }
 }
 
-// The job in a row, if that isn't a hole.
-pub fn job_from(row: &[u64]) -> Job
-    requires { length row.now ≡ 26 }
-    ensures { job_of result ≡ job_from_lem row.now }
-{
-    let kind = &row[0..23];
-    Job {
-        name: name_from(kind),
-        version: version_from(kind),
-        spec: spec_from(kind),
-        count: (row[23] % 65536) as u16,
-        least: (row[24] % 65536) as u16,
-        most: (row[25] % 65536) as u16,
+impl<'a> TaskRow<'a> {
+    pub fn kind(self) -> Kind<'a>
+        ensures { result.words.now ≡ drop 4 self.entry.words.now }
+    {
+        Row {
+            words: &self.words[4..],
+        }
+    }
+}
+
+impl Kind<'_> {
+    pub fn version(self) -> Version
+        ensures { result.0 ≡ version_from_lem self.entry.words.now }
+    {
+        Version(low_half(self.words[0]))
+    }
+
+    fn tags(self) -> [u32; 8]
+        ensures { result ≡ map low (take 8 (drop 6 self.entry.words.now)) }
+    {
+        std::array::from_fn(|a| low_half(self.words[6 + a]))
+    }
+
+    pub fn spec(self) -> Spec
+        ensures { spec_of result ≡ spec_from_lem self.entry.words.now }
+    {
+        Spec {
+            image: low_half(self.words[1]),
+            cpu: low_half(self.words[2]),
+            mem: low_half(self.words[3]),
+            apart: self.words[4] != 0,
+            count: self.words[5].min(8) as u8,
+            tags: self.tags(),
+        }
     }
 }

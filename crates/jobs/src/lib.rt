@@ -13,6 +13,7 @@ pub mod job_rows;
 pub mod kinds;
 pub mod layout;
 pub mod machine;
+pub mod machine_row;
 pub mod machine_rows;
 pub mod moves;
 pub mod name;

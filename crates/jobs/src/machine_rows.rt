@@ -10,7 +10,7 @@ use crate::encoding::encode_machine;
 use crate::ids::{Life, ReportNumber};
 use crate::layout::*;
 use crate::machine::Machine;
-use crate::rows::{machine_row, machine_rows as rows_in_use};
+use crate::rows::MACHINES;
 
 // The machine in row `i` takes new tasks, or not.
 pub fn set_open(home: &mut [u64], i: usize, open: bool)
@@ -54,13 +54,7 @@ pub fn count_machines(home: &[u64]) -> usize
     requires { home_words_lem ≤ length home.now }
     ensures { (live : List ℕ) → result ≡ length (machines_of home.now live) }
 {
-    let mut count = 0;
-    for i in 0..rows_in_use(home) {
-        if machine_row(home, i)[0] != 0 {
-            count += 1;
-        }
-    }
-    count
+    MACHINES.count(home)
 }
 
 // Closes the holes between machines.
@@ -70,7 +64,7 @@ fn close_machines(home: &mut [u64], live: &mut [u64])
     ensures now { MachinesNow (machines_of home.old live.old) home.old live.old home.new live.new }
     ensures rows { machine_rows_lem home.new ≡ length (machines_of home.old live.old) }
 {
-    let n = rows_in_use(home);
+    let n = MACHINES.in_use(home);
     let count = close_rows(home, &mut live[0..256], MACHINE_BASE, MACHINE_WIDTH, n);
     home[MACHINE_ROWS] = count as u64;
 }
@@ -82,7 +76,7 @@ fn make_machine_room(home: &mut [u64], live: &mut [u64])
     ensures now { MachinesNow (machines_of home.old live.old) home.old live.old home.new live.new }
     ensures free { length (machines_of home.old live.old) < 256 → machine_rows_lem home.new < 256 }
 {
-    if rows_in_use(home) == MAX_MACHINES {
+    if MACHINES.in_use(home) == MAX_MACHINES {
         close_machines(home, live);
     }
 }
@@ -94,7 +88,7 @@ fn push_machine(home: &mut [u64], live: &mut [u64], m: Machine)
     requires free { machine_rows_lem home.old < 256 }
     ensures { MachinesNow (machines_of home.old live.old ++ new_machine m.num.0 m.cpu m.mem (take m.count m.tags) ∷ []) home.old live.old home.new live.new }
 {
-    let n = rows_in_use(home);
+    let n = MACHINES.in_use(home);
     let words = encode_machine(m);
     put_words(home, MACHINE_BASE + n * MACHINE_WIDTH, &words);
     home[MACHINE_ROWS] = n as u64 + 1;

@@ -7,16 +7,15 @@ ghost use Rattle.jobs.specs.Tables.{task_rows_lem, tasks_of, job_from_lem, job_r
 
 use crate::closing::{close_rows, put_words};
 use crate::layout::*;
-use crate::rows::{job_row, task_rows};
+use crate::rows::{JOBS, Kind, TASKS};
 
 // The row of a new task of a kind.
-fn fresh_row(id: u64, kind: &[u64]) -> [u64; 27]
-    requires { length kind.now ≡ 23 }
-    ensures { result ≡ id ∷ 0 ∷ 0 ∷ 0 ∷ kind.now }
+fn fresh_row(id: u64, kind: Kind) -> [u64; 27]
+    ensures { result ≡ id ∷ 0 ∷ 0 ∷ 0 ∷ kind.entry.words.now }
 {
     let mut words = [0; 27];
     words[0] = id;
-    words[4..27].copy_from_slice(kind);
+    words[4..].copy_from_slice(kind.words);
     words
 }
 
@@ -30,9 +29,9 @@ pub fn add_task(home: &mut [u64], live: &mut [u64], j: usize)
     ensures state { (time : ℕ) → state_of home.new live.new time ≡ grown (job_from_lem (job_row_lem home.old j)) (state_of home.old live.old time) }
     ensures frame { TasksOnly home.old live.old home.new live.new }
 {
-    let n = task_rows(home);
+    let n = TASKS.in_use(home);
     let id = home[LAST_ID] + 1;
-    let words = fresh_row(id, &job_row(home, j)[0..23]);
+    let words = fresh_row(id, JOBS.row(home, j).kind());
     put_words(home, TASK_BASE + n * TASK_WIDTH, &words);
     live[READY_BASE + n] = 0;
     home[LAST_ID] = id;
@@ -46,7 +45,7 @@ pub fn compact(home: &mut [u64], live: &mut [u64])
     ensures now { TasksNow (tasks_of home.old live.old) home.old live.old home.new live.new }
     ensures rows { task_rows_lem home.new ≡ length (tasks_of home.old live.old) }
 {
-    let n = task_rows(home);
+    let n = TASKS.in_use(home);
     let count = close_rows(
         home,
         &mut live[READY_BASE..LIVE_WORDS],

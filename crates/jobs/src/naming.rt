@@ -1,10 +1,12 @@
 // Names in rows.
 ghost use Rattle.std.specs.Prelude.{◌≡◌, ℕ, ◌+◌, ◌-◌, ◌*◌, ◌<◌, ◌≤◌, min, length};
-ghost use Rattle.model.specs.Lists.{same};
-ghost use Rattle.jobs.specs.Tables.{byte_at, name_from_lem};
+ghost use Rattle.model.specs.Lists.{same, some};
+ghost use Rattle.model.specs.State.{is_job};
+ghost use Rattle.jobs.specs.Tables.{byte_at, job_slot, name_from_lem};
 ghost use Rattle.jobs.specs.Values.{name_of};
 
 use crate::name::Name;
+use crate::rows::{JobRow, Kind};
 
 // Byte `k` of eight words.
 fn byte_at(words: &[u64], k: u8) -> u8
@@ -16,31 +18,35 @@ fn byte_at(words: &[u64], k: u8) -> u8
     ((w >> (56 - 8 * (k % 8))) % 256) as u8
 }
 
-// Is that the name in a kind.
-pub fn is_named(kind: &[u64], name: &Name) -> bool
-    requires { length kind.now ≡ 23 }
-    ensures { result ≡ same (name_of name.now) (name_from_lem kind.now) }
-{
-    if name.len as u64 != kind[14].min(64) {
-        return false;
-    }
-    for k in 0..name.len {
-        if byte_at(&name.words, k) != byte_at(&kind[15..23], k) {
+impl Kind<'_> {
+    // Is that the job's name.
+    pub fn is_named(self, name: &Name) -> bool
+        ensures { result ≡ same (name_of name.now) (name_from_lem self.entry.words.now) }
+    {
+        if u64::from(name.len) != self.words[14].min(64) {
             return false;
         }
+        (0..name.len).all(|k| byte_at(&name.words, k) == byte_at(&self.words[15..], k))
     }
-    true
+
+    // The job's name.
+    pub fn name(self) -> Name
+        ensures { name_of result ≡ name_from_lem self.entry.words.now }
+    {
+        let mut words = [0; 8];
+        words.copy_from_slice(&self.words[15..]);
+        Name {
+            len: self.words[14].min(64) as u8,
+            words,
+        }
+    }
 }
 
-// The name in a kind.
-pub fn name_from(kind: &[u64]) -> Name
-    requires { length kind.now ≡ 23 }
-    ensures { name_of result ≡ name_from_lem kind.now }
-{
-    Name {
-        len: kind[14].min(64) as u8,
-        words: [
-            kind[15], kind[16], kind[17], kind[18], kind[19], kind[20], kind[21], kind[22],
-        ],
+impl JobRow<'_> {
+    // Is there a job of that name.
+    pub fn is_named(self, name: &Name) -> bool
+        ensures { result ≡ some (is_job (name_of name.now)) (job_slot self.entry.words.now) }
+    {
+        !self.is_hole() && self.kind().is_named(name)
     }
 }

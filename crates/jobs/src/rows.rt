@@ -1,70 +1,86 @@
-// The rows, as parts of the words.
-ghost use Rattle.std.specs.Prelude.{◌≡◌, ℕ, ◌+◌, ◌*◌, ◌<◌, ◌≤◌, min, length, drop};
-ghost use Rattle.jobs.specs.Layout.{home_words_lem, live_words};
-ghost use Rattle.jobs.specs.Tables.{job_row_lem, machine_row_lem, task_row_lem, job_rows_lem, machine_rows_lem, task_rows_lem};
+// The rows, as parts of the words, and the three tables that they stand in.
+ghost use Rattle.std.specs.Prelude.{◌≡◌, ℕ, ◌+◌, ◌*◌, ◌<◌, ◌≤◌, min, List, length, ◌==◌};
+ghost use Rattle.jobs.specs.Rows.{at, entry_at, row_at, span};
 
 use crate::layout::*;
 
-// Row `i` of the tasks.
-pub fn task_row(home: &[u64], i: usize) -> &[u64]
-    requires words { home_words_lem ≤ length home.now }
-    requires within { i < 2048 }
-    ensures is { result.now ≡ task_row_lem home.now i }
-    ensures long { length result.now ≡ 27 }
-{
-    &home[TASK_BASE + i * TASK_WIDTH..TASK_BASE + i * TASK_WIDTH + TASK_WIDTH]
+// A part of the words, of so many.
+#[derive(Clone, Copy)]
+pub struct Row<'a, const WIDTH: usize> {
+    pub words: &'a [u64],
+    ghost long: { length words.now ≡ WIDTH },
 }
 
-// The kind in a task's row.
-pub fn task_kind(row: &[u64]) -> &[u64]
-    requires { length row.now ≡ 27 }
-    ensures is { result.now ≡ drop 4 row.now }
-    ensures long { length result.now ≡ 23 }
-{
-    &row[4..27]
+// What a job and its tasks have in common: version, spec and name.
+pub type Kind<'a> = Row<'a, 23>;
+
+pub type JobRow<'a> = Row<'a, 26>;
+
+pub type MachineRow<'a> = Row<'a, 24>;
+
+pub type TaskRow<'a> = Row<'a, 27>;
+
+// `MOST` rows of `WIDTH` words from word `BASE` on; word `COUNTED` says how many are in use, holes among them.
+#[derive(Clone, Copy)]
+pub struct Table<const BASE: usize, const WIDTH: usize, const MOST: usize, const COUNTED: usize>;
+
+pub const JOBS: Table<JOB_BASE, JOB_WIDTH, MAX_JOBS, JOB_ROWS> = Table;
+
+pub const MACHINES: Table<MACHINE_BASE, MACHINE_WIDTH, MAX_MACHINES, MACHINE_ROWS> = Table;
+
+pub const TASKS: Table<TASK_BASE, TASK_WIDTH, MAX_TASKS, TASK_ROWS> = Table;
+
+impl<'a, const WIDTH: usize> Row<'a, WIDTH> {
+    // A row that begins with 0 is a hole.
+    pub fn is_hole(self) -> bool
+        ensures { result ≡ (at self.entry.words.now 0 == 0) }
+    {
+        match self.words.first() {
+            Some(word) => *word == 0,
+            None => true,
+        }
+    }
 }
 
-// Row `i` of the jobs.
-pub fn job_row(home: &[u64], i: usize) -> &[u64]
-    requires words { home_words_lem ≤ length home.now }
-    requires within { i < 256 }
-    ensures is { result.now ≡ job_row_lem home.now i }
-    ensures long { length result.now ≡ 26 }
-{
-    &home[JOB_BASE + i * JOB_WIDTH..JOB_BASE + i * JOB_WIDTH + JOB_WIDTH]
-}
+impl<const BASE: usize, const WIDTH: usize, const MOST: usize, const COUNTED: usize> Table<
+    BASE,
+    WIDTH,
+    MOST,
+    COUNTED,
+> {
+    // Row `i`.
+    pub fn row<'a>(self, home: &'a [u64], i: usize) -> Row<'a, WIDTH>
+        requires words { BASE + MOST * WIDTH ≤ length home.now }
+        requires within { i < MOST }
+        ensures { result.words.now ≡ row_at BASE WIDTH home.now i }
+    {
+        let from = BASE + i * WIDTH;
+        Row {
+            words: &home[from..from + WIDTH],
+        }
+    }
 
-// Row `i` of the machines.
-pub fn machine_row(home: &[u64], i: usize) -> &[u64]
-    requires words { home_words_lem ≤ length home.now }
-    requires within { i < 256 }
-    ensures is { result.now ≡ machine_row_lem home.now i }
-    ensures long { length result.now ≡ 24 }
-{
-    &home[MACHINE_BASE + i * MACHINE_WIDTH..MACHINE_BASE + i * MACHINE_WIDTH + MACHINE_WIDTH]
-}
+    // How many rows are in use.
+    pub fn in_use(self, home: &[u64]) -> usize
+        requires { COUNTED < length home.now }
+        ensures is { result ≡ min (at home.now COUNTED) MOST }
+        ensures few { result ≤ MOST }
+    {
+        home[COUNTED].min(MOST as u64) as usize
+    }
 
-// How many rows of tasks are in use, holes among them.
-pub fn task_rows(home: &[u64]) -> usize
-    requires { home_words_lem ≤ length home.now }
-    ensures is { result ≡ task_rows_lem home.now }
-    ensures few { result ≤ 2048 }
-{
-    home[TASK_ROWS].min(2048) as usize
-}
-
-pub fn job_rows(home: &[u64]) -> usize
-    requires { home_words_lem ≤ length home.now }
-    ensures is { result ≡ job_rows_lem home.now }
-    ensures few { result ≤ 256 }
-{
-    home[JOB_ROWS].min(256) as usize
-}
-
-pub fn machine_rows(home: &[u64]) -> usize
-    requires { home_words_lem ≤ length home.now }
-    ensures is { result ≡ machine_rows_lem home.now }
-    ensures few { result ≤ 256 }
-{
-    home[MACHINE_ROWS].min(256) as usize
+    // How many rows in use are no holes.
+    pub fn count(self, home: &[u64]) -> usize
+        requires words { BASE + MOST * WIDTH ≤ length home.now }
+        requires counted { COUNTED < length home.now }
+        ensures { (flags : List ℕ) → result ≡ length (span (entry_at BASE WIDTH home.now flags) 0 (min (at home.now COUNTED) MOST)) }
+    {
+        let mut count = 0;
+        for i in 0..self.in_use(home) {
+            if !self.row(home, i).is_hole() {
+                count += 1;
+            }
+        }
+        count
+    }
 }

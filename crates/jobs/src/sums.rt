@@ -5,22 +5,20 @@ ghost use Rattle.jobs.specs.Layout.{home_words_lem};
 ghost use Rattle.jobs.specs.Tables.{job_slot, jobs_of};
 ghost use Rattle.jobs.specs.Values.{name_of};
 
-use crate::finding::job_named;
 use crate::name::Name;
-use crate::rows::{job_row, job_rows};
+use crate::rows::{JOBS, JobRow};
 
 // What the job in a row may have at most, unless it is a hole or has that name.
-fn most_in(row: &[u64], name: &Name) -> u16
-    requires { length row.now ≡ 26 }
-    ensures { result ≡ all_most (others (name_of name.now) (job_slot row.now)) }
+fn most_in(row: JobRow, name: &Name) -> u16
+    ensures { result ≡ all_most (others (name_of name.now) (job_slot row.entry.words.now)) }
 {
-    if row[0] == 0 {
+    if row.is_hole() {
         return 0;
     }
-    if job_named(row, name) {
+    if row.is_named(name) {
         return 0;
     }
-    (row[25] % 65536) as u16
+    row.most()
 }
 
 // What the jobs of other names may have at most, together.
@@ -29,8 +27,8 @@ pub fn sum_of_mosts(home: &[u64], name: &Name) -> u32
     ensures { result ≡ all_most (others (name_of name.now) (jobs_of home.now)) }
 {
     let mut sum: u32 = 0;
-    for i in 0..job_rows(home) {
-        sum += u32::from(most_in(job_row(home, i), name));
+    for i in 0..JOBS.in_use(home) {
+        sum += u32::from(most_in(JOBS.row(home, i), name));
     }
     sum
 }

@@ -6,9 +6,10 @@ ghost use Rattle.jobs.specs.Tables.{low, spec_from_lem, version_from_lem, phase_
 ghost use Rattle.jobs.specs.Values.{spec_of, phase_of, machine_of, life_of};
 ghost use Rattle.jobs.specs.Changes.{end_each, place_each, mark_each};
 
-use crate::ids::{Life, MachineId};
+use crate::ids::{Life, MachineId, TaskId};
 use crate::layout::*;
 use crate::phase::{Phase, Place};
+use crate::rows::TaskRow;
 
 // Ends the task in row `i`: one that waits is gone, any other is ending.
 pub fn end_task(home: &mut [u64], i: usize)
@@ -56,21 +57,35 @@ pub fn mark_task(live: &mut [u64], i: usize, ready: bool)
     live[READY_BASE + i] = ready as u64;
 }
 
-// The phase of a task, by its row and its word in `live`.
-pub fn phase_from(row: &[u64], ready: u64) -> Phase
-    requires { length row.now ≡ 27 }
-    ensures phase { phase_of result ≡ phase_from_lem (at row.now 1) ready }
-    ensures machine { machine_of result ≡ (if nat_eq (at row.now 1) 0 then 0 else at row.now 2 % 65536) }
-    ensures life { life_of result ≡ (if nat_eq (at row.now 1) 0 then 0 else at row.now 3) }
-{
-    let place = Place {
-        machine: MachineId((row[2] % 65536) as u16),
-        life: Life(row[3]),
-    };
-    match row[1] {
-        0 => Phase::Waiting,
-        1 if ready == 0 => Phase::Told(place),
-        1 => Phase::Ready(place),
-        _ => Phase::Ending(place),
+impl TaskRow<'_> {
+    pub fn id(self) -> TaskId
+        ensures { result.0 ≡ at self.entry.words.now 0 }
+    {
+        TaskId(self.words[0])
+    }
+
+    // Its machine, if it doesn't wait.
+    pub fn machine(self) -> MachineId
+        ensures { result.0 ≡ at self.entry.words.now 2 % 65536 }
+    {
+        MachineId((self.words[2] % 65536) as u16)
+    }
+
+    // Its phase, by the word in `live` that says whether it is ready.
+    pub fn phase(self, ready: u64) -> Phase
+        ensures phase { phase_of result ≡ phase_from_lem (at self.entry.words.now 1) ready }
+        ensures machine { machine_of result ≡ (if nat_eq (at self.entry.words.now 1) 0 then 0 else at self.entry.words.now 2 % 65536) }
+        ensures life { life_of result ≡ (if nat_eq (at self.entry.words.now 1) 0 then 0 else at self.entry.words.now 3) }
+    {
+        let place = Place {
+            machine: self.machine(),
+            life: Life(self.words[3]),
+        };
+        match self.words[1] {
+            0 => Phase::Waiting,
+            1 if ready == 0 => Phase::Told(place),
+            1 => Phase::Ready(place),
+            _ => Phase::Ending(place),
+        }
     }
 }

@@ -1,26 +1,17 @@
-use Rattle.std.proofs.Common.{sym, ap, ◌∙◌, arith}
+use Rattle.std.proofs.Common.{◌≡◌, ℕ, ◌==◌, true, false, List, sym, ap, ◌∙◌, subst, rules, tests, arith}
+use Rattle.std.proofs.lemmas.Iterator.{first_from_Range}
+use Rattle.model.specs.Lists.{some}
 use Rattle.model.specs.State.{is_job}
-use Rattle.jobs.specs.Rows.{at}
-use Rattle.jobs.specs.Tables.{job_at, job_from_lem, job_slot, job_rows_lem}
+use Rattle.jobs.specs.Rows.{at, row_at}
+use Rattle.jobs.specs.Tables.{FoundAt, job_at, job_from_lem, job_slot}
 use Rattle.jobs.specs.Values.{name_of}
-use Rattle.jobs.proofs.Finds.{find_start, find_hole, find_other, find_this, slot_hole, slot_full}
+use Rattle.jobs.proofs.Ranges.{found_in_range}
 use Rattle.jobs.proofs.finding.find_job.Goals as goal
-use Rattle.jobs.proofs.finding.find_job.Goals.{else-row-ne0-via-then-row-ne0+else-job_named, else-row-ne0-via-else-row-ne0}
 
-pub loop-i-init : goal.loop-i-init
-loop-i-init c = find_start (is_job (name_of c.args.name.now)) (job_at c.args.home.now)
-
-pub returns-then-job_named : goal.returns-then-job_named
-returns-then-job_named c =
-    let r = c.job_row-row.result.now in
-    find_this (is_job (name_of c.args.name.now)) (job_at c.args.home.now) c.loop-i.i c.loop-i.invariant (job_rows_lem c.args.home.now) (job_from_lem r) (omega arith)
-    (ap job_slot (sym c.job_row-row.ensures.is) ∙ slot_full (at r 0) (job_from_lem r) c.if-row-ne0.true) (sym c.job_named.ensures ∙ c.if-job_named.true)
-
-pub loop-i-preserved : goal.loop-i-preserved
-loop-i-preserved c =
-    let r = c.job_row-row.result.now in
-    elim c.else-row-ne0.branch [
-      | else-row-ne0-via-then-row-ne0+else-job_named w ↦ find_other (is_job (name_of c.args.name.now)) (job_at c.args.home.now) c.loop-i.i c.loop-i.invariant (job_from_lem r)
-          (ap job_slot (sym c.job_row-row.ensures.is) ∙ slot_full (at r 0) (job_from_lem r) w.if-row-ne0.true) (sym w.job_named.ensures ∙ w.if-job_named.false)
-      | else-row-ne0-via-else-row-ne0 w ↦ find_hole (is_job (name_of c.args.name.now)) (job_at c.args.home.now) c.loop-i.i c.loop-i.invariant (ap job_slot (sym c.job_row-row.ensures.is) ∙ slot_hole (at r 0) (job_from_lem r) w.if-row-ne0.false)
-    ]
+pub returns : goal.returns
+returns c =
+    let home = c.args.home.now in
+    let p = is_job (name_of c.args.name.now) in
+    let f = first_from_Range _ _ _ _ (λ i. some p (job_at home i) ≡ true) (λ i. some p (job_at home i) ≡ false) c.find.ensures.ran (λ x q k. search (rules, tests)) (λ x q k. (search rules, search (rules, tests))) in
+    subst (λ (n : ℕ). FoundAt p (job_at home) n c.find.result) c.in_use.ensures.is
+    (found_in_range p (λ i. at (row_at 8 26 home i) 0 == 0) (λ i. job_from_lem (row_at 8 26 home i)) c.in_use.result c.find.result f)
