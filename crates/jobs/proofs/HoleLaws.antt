@@ -11,37 +11,13 @@ use Rattle.jobs.proofs.Spans.{span_none, span_more, span_same}
 pub puts_words : (p k : ℕ) (ws r : List ℕ) → k ≡ length r → p + length r ≤ length ws → WordsPut p r ws (put_mid p k ws r)
 puts_words p k ws r e h = rw e (record { here = put_row_lem (length r) p (length r) ws r (omega arith) refl; only = put_only p (length r) ws r h refl })
 
--- MOVING
-
-pub record Moving (h0 : List ℕ) (from to k : ℕ) (home : List ℕ) : Type 0 where
-  pub moved : (j : ℕ) → j < k → at home (to + j) ≡ at h0 (from + j)
-  pub only : Only to (to + k) home h0
-
-pub moving_none : (h0 : List ℕ) (from to : ℕ) → Moving h0 from to 0 h0
-moving_none h0 from to = record { moved = λ j h. absurd (omega arith); only = only_none to (to + 0) h0 }
-
-pub moving_more : (h0 : List ℕ) (from to k : ℕ) (home : List ℕ) → to ≤ from → to + k < length home → Moving h0 from to k home → Moving h0 from to (k + 1) (set home (to + k) (at home (from + k)))
-moving_more h0 from to k home d l m = record {
-  moved = λ j h. elim (cases_eq j k) [
-    | inl e ↦ rw e (get_or-set_same home (to + k) (at home (from + k)) 0 l ∙ m.only.above (from + k) (omega arith))
-    | inr n ↦ get_or-set_other home (to + k) (to + j) (at home (from + k)) 0 (λ e. n (omega arith)) ∙ m.moved j (under j h n)
-  ];
-  only = record {
-    long = length-set home (to + k) (at home (from + k)) ∙ m.only.long;
-    below = λ j h. get_or-set_other home (to + k) j (at home (from + k)) 0 (λ e. omega arith) ∙ m.only.below j h;
-    above = λ j h. get_or-set_other home (to + k) j (at home (from + k)) 0 (λ e. omega arith) ∙ m.only.above j (omega arith);
-  };
-}
-  where
-    under : (j : ℕ) → j < k + 1 → (j ≡ k → ⊥) → j < k
-    under j h n = omega arith
-
-pub moving_all : (h0 : List ℕ) (from to n : ℕ) (home : List ℕ) → to ≤ from → from + n ≤ length h0 → Moving h0 from to n home → Moved from to n h0 home
-moving_all h0 from to n home d l m =
-    let long = m.only.long in
+-- n words were copied down
+pub moved : (h0 : List ℕ) (from to n : ℕ) (home : List ℕ) → to ≤ from → from + n ≤ length h0 → ((j : ℕ) → j < n → at home (to + j) ≡ at h0 (from + j)) → Only to (to + n) home h0 → Moved from to n h0 home
+moved h0 from to n home d l m o =
+    let long = o.long in
     record {
-      here = ext_get_or 0 _ _ (simp (length-take, length-drop) (omega arith)) (λ j h. let k : j < n = omega (arith, length-take n (drop to home)) in get_or-take n (drop to home) j 0 k ∙ get_or-drop to home j 0 ∙ m.moved j k ∙ sym (get_or-take n (drop from h0) j 0 k ∙ get_or-drop from h0 j 0));
-      only = m.only;
+      here = ext_get_or 0 _ _ (simp (length-take, length-drop) (omega arith)) (λ j h. let k : j < n = omega (arith, length-take n (drop to home)) in get_or-take n (drop to home) j 0 k ∙ get_or-drop to home j 0 ∙ m j k ∙ sym (get_or-take n (drop from h0) j 0 k ∙ get_or-drop from h0 j 0));
+      only = o;
     }
 
 -- CLOSING

@@ -1,6 +1,6 @@
 -- Rows of w words each, from word b on, and what they stand for.
 -- Assumes nothing.
-use Rattle.std.specs.Prelude.{◌≡◌, ℕ, zero, suc, ◌+◌, ◌*◌, ◌<◌, ◌≤◌, cond, List, [], ◌∷◌, ◌++◌, length, take, drop, ◌==◌, slice_index}
+use Rattle.std.specs.Prelude.{◌≡◌, ℕ, zero, suc, ◌+◌, ◌*◌, ◌<◌, ◌≤◌, cond, List, [], ◌∷◌, ◌++◌, length, take, drop, ◌==◌, slice_index, slice_set}
 
 -- word i, 0 past the end
 abbrev pub at : List ℕ → ℕ → ℕ
@@ -45,3 +45,16 @@ pub record Closed (b w n : ℕ) (ws fs ws' fs' : List ℕ) (to : ℕ) : Type 0 w
   pub low : to ≤ n
   pub only : Only b (b + n * w) ws' ws
   pub long : length fs' ≡ length fs
+
+-- row n is r now, and word c says that one more row is in use
+pub record Pushed (b w c n : ℕ) (r ws ws' : List ℕ) : Type 0 where
+  pub mid : List ℕ
+  pub put : WordsPut (b + n * w) r ws mid
+  pub counted : ws' ≡ slice_set mid c (n + 1)
+
+-- the holes of n rows are closed, and word c says how many rows are in use then
+pub record Shut (b w c n : ℕ) (ws fs ws' fs' : List ℕ) : Type 0 where
+  pub mid : List ℕ
+  pub to : ℕ
+  pub closed : Closed b w n ws fs mid fs' to
+  pub counted : ws' ≡ slice_set mid c to

@@ -5,7 +5,6 @@ ghost use Rattle.jobs.specs.Rows.{at};
 ghost use Rattle.jobs.specs.Tables.{job_rows_lem, jobs_of, jobs_with, JobsNow};
 ghost use Rattle.jobs.specs.Values.{job_of};
 
-use crate::closing::{close_rows, put_words};
 use crate::encoding::encode_job;
 use crate::job::Job;
 use crate::layout::*;
@@ -17,8 +16,7 @@ pub fn put_job(home: &mut [u64], i: usize, job: Job)
     requires within { i < job_rows_lem home.old }
     ensures { JobsNow (jobs_with home.old i (job_of job ∷ [])) home.old home.new }
 {
-    let words = encode_job(job);
-    put_words(home, JOB_BASE + i * JOB_WIDTH, &words);
+    JOBS.put(home, i, &encode_job(job));
 }
 
 // The job in row `i` is no longer wanted.
@@ -27,7 +25,7 @@ pub fn remove_job(home: &mut [u64], i: usize)
     requires within { i < job_rows_lem home.old }
     ensures { JobsNow (jobs_with home.old i []) home.old home.new }
 {
-    home[JOB_BASE + i * JOB_WIDTH] = 0;
+    JOBS.remove(home, i);
 }
 
 // How many jobs there are.
@@ -44,10 +42,8 @@ fn close_jobs(home: &mut [u64])
     ensures now { JobsNow (jobs_of home.old) home.old home.new }
     ensures rows { job_rows_lem home.new ≡ length (jobs_of home.old) }
 {
-    let n = JOBS.in_use(home);
-    let mut none = [0; 256];
-    let count = close_rows(home, &mut none, JOB_BASE, JOB_WIDTH, n);
-    home[JOB_ROWS] = count as u64;
+    let mut none = [0; MAX_JOBS];
+    JOBS.close(home, &mut none);
 }
 
 // Closes the holes where no row is free.
@@ -67,10 +63,7 @@ fn push_job(home: &mut [u64], job: Job)
     requires free { job_rows_lem home.old < 256 }
     ensures { JobsNow (jobs_of home.old ++ job_of job ∷ []) home.old home.new }
 {
-    let n = JOBS.in_use(home);
-    let words = encode_job(job);
-    put_words(home, JOB_BASE + n * JOB_WIDTH, &words);
-    home[JOB_ROWS] = n as u64 + 1;
+    let _ = JOBS.push(home, &encode_job(job));
 }
 
 // One more job, behind the others; refused where there are 256.

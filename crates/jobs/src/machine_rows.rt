@@ -5,7 +5,6 @@ ghost use Rattle.jobs.specs.Layout.{home_words_lem, live_words};
 ghost use Rattle.jobs.specs.Rows.{at};
 ghost use Rattle.jobs.specs.Tables.{machine_at, machine_rows_lem, machines_of, machines_with, MachinesNow};
 
-use crate::closing::{close_rows, put_words};
 use crate::encoding::encode_machine;
 use crate::ids::{Life, ReportNumber};
 use crate::layout::*;
@@ -46,7 +45,7 @@ pub fn remove_machine(home: &mut [u64], i: usize)
     requires within { i < machine_rows_lem home.old }
     ensures { (live : List ℕ) → MachinesNow (machines_with home.old live i []) home.old live home.new live }
 {
-    home[MACHINE_BASE + i * MACHINE_WIDTH] = 0;
+    MACHINES.remove(home, i);
 }
 
 // How many machines there are.
@@ -64,9 +63,7 @@ fn close_machines(home: &mut [u64], live: &mut [u64])
     ensures now { MachinesNow (machines_of home.old live.old) home.old live.old home.new live.new }
     ensures rows { machine_rows_lem home.new ≡ length (machines_of home.old live.old) }
 {
-    let n = MACHINES.in_use(home);
-    let count = close_rows(home, &mut live[0..256], MACHINE_BASE, MACHINE_WIDTH, n);
-    home[MACHINE_ROWS] = count as u64;
+    MACHINES.close(home, &mut live[0..MAX_MACHINES]);
 }
 
 // Closes the holes where no row is free.
@@ -88,10 +85,7 @@ fn push_machine(home: &mut [u64], live: &mut [u64], m: Machine)
     requires free { machine_rows_lem home.old < 256 }
     ensures { MachinesNow (machines_of home.old live.old ++ new_machine m.num.0 m.cpu m.mem (take m.count m.tags) ∷ []) home.old live.old home.new live.new }
 {
-    let n = MACHINES.in_use(home);
-    let words = encode_machine(m);
-    put_words(home, MACHINE_BASE + n * MACHINE_WIDTH, &words);
-    home[MACHINE_ROWS] = n as u64 + 1;
+    let n = MACHINES.push(home, &encode_machine(m));
     live[n] = 0;
 }
 

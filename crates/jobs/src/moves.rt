@@ -5,7 +5,6 @@ ghost use Rattle.jobs.specs.Layout.{home_words_lem, live_words};
 ghost use Rattle.jobs.specs.Rows.{at};
 ghost use Rattle.jobs.specs.Tables.{task_rows_lem, tasks_of, job_from_lem, job_row_lem, state_of, TasksOnly, TasksNow};
 
-use crate::closing::{close_rows, put_words};
 use crate::layout::*;
 use crate::rows::{JOBS, Kind, TASKS};
 
@@ -29,13 +28,11 @@ pub fn add_task(home: &mut [u64], live: &mut [u64], j: usize)
     ensures state { (time : ℕ) → state_of home.new live.new time ≡ grown (job_from_lem (job_row_lem home.old j)) (state_of home.old live.old time) }
     ensures frame { TasksOnly home.old live.old home.new live.new }
 {
-    let n = TASKS.in_use(home);
     let id = home[LAST_ID] + 1;
     let words = fresh_row(id, JOBS.row(home, j).kind());
-    put_words(home, TASK_BASE + n * TASK_WIDTH, &words);
+    let n = TASKS.push(home, &words);
     live[READY_BASE + n] = 0;
     home[LAST_ID] = id;
-    home[TASK_ROWS] = n as u64 + 1;
 }
 
 // Closes the holes: the list stays, and there are no more rows in use than tasks.
@@ -45,13 +42,5 @@ pub fn compact(home: &mut [u64], live: &mut [u64])
     ensures now { TasksNow (tasks_of home.old live.old) home.old live.old home.new live.new }
     ensures rows { task_rows_lem home.new ≡ length (tasks_of home.old live.old) }
 {
-    let n = TASKS.in_use(home);
-    let count = close_rows(
-        home,
-        &mut live[READY_BASE..LIVE_WORDS],
-        TASK_BASE,
-        TASK_WIDTH,
-        n,
-    );
-    home[TASK_ROWS] = count as u64;
+    TASKS.close(home, &mut live[READY_BASE..LIVE_WORDS]);
 }

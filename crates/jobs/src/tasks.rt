@@ -9,7 +9,7 @@ ghost use Rattle.jobs.specs.Changes.{end_each, place_each, mark_each};
 use crate::ids::{Life, MachineId, TaskId};
 use crate::layout::*;
 use crate::phase::{Phase, Place};
-use crate::rows::TaskRow;
+use crate::rows::{TASKS, TaskRow};
 
 // Ends the task in row `i`: one that waits is gone, any other is ending.
 pub fn end_task(home: &mut [u64], i: usize)
@@ -31,7 +31,7 @@ pub fn remove_task(home: &mut [u64], i: usize)
     requires within { i < 2048 }
     ensures { (live : List ℕ) → TaskPut i [] home.old live home.new live }
 {
-    home[TASK_BASE + i * TASK_WIDTH] = 0;
+    TASKS.remove(home, i);
 }
 
 // Tells the task in row `i` to a machine.

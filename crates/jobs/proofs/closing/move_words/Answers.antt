@@ -1,14 +1,11 @@
-use Rattle.std.proofs.Common.{◌≡◌, ℕ, subst, arith}
-use Rattle.jobs.proofs.HoleLaws.{Moving, moving_none, moving_more, moving_all}
+use Rattle.std.proofs.Common.{◌≡◌, ◌+◌, ◌-◌, ap, ◌∙◌, arith}
+use Rattle.jobs.specs.Rows.{at}
+use Rattle.jobs.proofs.HoleLaws.{moved}
 use Rattle.jobs.proofs.closing.move_words.Goals as goal
-
-pub loop-k-init : goal.loop-k-init
-loop-k-init c = moving_none c.args.home.now c.args.from c.args.to
-
-pub loop-k-preserved : goal.loop-k-preserved
-loop-k-preserved c = moving_more c.args.home.now c.args.from c.args.to c.loop-k.k c.loop-k.home c.requires.down (omega arith) c.loop-k.invariant
 
 pub returns : goal.returns
 returns c =
-    let e : c.loop-k.k ≡ c.args.n = omega arith in
-    moving_all c.args.home.now c.args.from c.args.to c.args.n c.loop-k.home c.requires.down c.requires.within (subst (λ (k : ℕ). Moving c.args.home.now c.args.from c.args.to k c.loop-k.home) e c.loop-k.invariant)
+    let b = c.copy_within.ensures.by_index in
+    moved c.args.home.now c.args.from c.args.to c.args.n c.copy_within.new.self c.requires.down c.requires.within
+    (λ j h. let e : c.args.from + (c.args.to + j - c.args.to) ≡ c.args.from + j = omega arith in b.0 (c.args.to + j) 0 (omega arith) (omega arith) ∙ ap (at c.args.home.now) e)
+    (record { long = c.copy_within.ensures.len; below = λ k h. b.1 k 0 h; above = λ k h. b.2 k 0 (omega arith) })

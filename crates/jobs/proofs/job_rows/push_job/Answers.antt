@@ -5,5 +5,6 @@ use Rattle.jobs.proofs.job_rows.push_job.Goals as goal
 
 pub returns : goal.returns
 returns c =
-    let l : length c.encode_job-words.result ≡ 26 = search rules in
-    job_pushed c.args.home.now c.requires.words c.put_words.new.home c.encode_job-words.result c.in_use-n.result (job_of c.args.job) c.in_use-n.ensures.is (omega arith) l c.encode_job-words.ensures.back (λ e. omega (arith, e, c.encode_job-words.ensures.there)) c.put_words.ensures
+    let l : length c.encode_job.result ≡ 26 = search rules in
+    let p = c.push.ensures.pushed in
+    rw p.counted (job_pushed c.args.home.now c.requires.words p.mid c.encode_job.result c.push.result (job_of c.args.job) c.push.ensures.row (omega (arith, c.push.ensures.row)) l c.encode_job.ensures.back (λ e. omega (arith, e, c.encode_job.ensures.there)) p.put)

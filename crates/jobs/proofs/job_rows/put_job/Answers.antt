@@ -5,5 +5,5 @@ use Rattle.jobs.proofs.job_rows.put_job.Goals as goal
 
 pub returns : goal.returns
 returns c =
-    let l : length c.encode_job-words.result ≡ 26 = search rules in
-    job_put c.args.home.now c.requires.words c.put_words.new.home c.encode_job-words.result c.args.i (job_of c.args.job) c.requires.within l c.encode_job-words.ensures.back (λ e. omega (arith, e, c.encode_job-words.ensures.there)) c.put_words.ensures
+    let l : length c.encode_job.result ≡ 26 = search rules in
+    job_put c.args.home.now c.requires.words c.put.new.home c.encode_job.result c.args.i (job_of c.args.job) c.requires.within l c.encode_job.ensures.back (λ e. omega (arith, e, c.encode_job.ensures.there)) c.put.ensures

@@ -4,5 +4,6 @@ use Rattle.jobs.proofs.machine_rows.push_machine.Goals as goal
 
 pub returns : goal.returns
 returns c =
-    let l : length c.encode_machine-words.result ≡ 24 = search rules in
-    machine_pushed c.args.home.now c.requires.words c.args.live.now c.put_words.new.home c.encode_machine-words.result c.in_use-n.result _ c.in_use-n.ensures.is (omega arith) (omega arith) l c.encode_machine-words.ensures.back c.encode_machine-words.ensures.there c.put_words.ensures
+    let l : length c.encode_machine.result ≡ 24 = search rules in
+    let p = c.push-n.ensures.pushed in
+    rw p.counted (machine_pushed c.args.home.now c.requires.words c.args.live.now p.mid c.encode_machine.result c.push-n.result _ c.push-n.ensures.row (omega (arith, c.push-n.ensures.row)) (omega (arith, c.push-n.ensures.row)) l c.encode_machine.ensures.back c.encode_machine.ensures.there p.put)
