@@ -1,8 +1,8 @@
 -- Words that a value was written as stand for that value.
 -- Assumes nothing.
-use Rattle.std.proofs.Common.{◌≡◌, ℕ, suc, ◌%◌, ◌<◌, min, Bool, true, false, cond, eqb, List, [], ◌∷◌, ◌++◌, map, length, get_or, take, drop, sym, refl, ap, ◌∙◌, arith}
+use Rattle.std.proofs.Common.{◌≡◌, ℕ, suc, ◌%◌, ◌<◌, min, Bool, true, false, cond, eqb, List, [], ◌∷◌, map, length, get_or, take, sym, refl, arith}
+use mir.Val.{bool_byte}
 use Rattle.std.proofs.lemmas.Bool.{eqb-true, eqb-false}
-use Rattle.std.proofs.lemmas.List.{length-take, length-drop, take_all, take-append-drop}
 use Rattle.model.specs.Calls.{new_machine}
 use Rattle.jobs.specs.declared.job.Job.{Job}
 use Rattle.jobs.specs.declared.machine.Machine.{Machine}
@@ -26,6 +26,10 @@ pub record Sized (j : Job) : Type 0 where
 
 small : (n : ℕ) → n < 4294967296 → low n ≡ n
 small n h = omega arith
+
+pub byte_cond : (b : Bool) → bool_byte b ≡ cond b 1 0
+byte_cond true = refl
+byte_cond false = refl
 
 flag_back : (b : Bool) → flag (cond b 1 0) ≡ b
 flag_back true = refl
@@ -83,11 +87,3 @@ machine_back m s =
     let c = small m.mem s.mem in
     let d : min m.count 16 ≡ m.count = omega (arith, m.few) in
     rw (a, b, c, d, lows_back m.tags s.low)
-
-pub sixteen : (xs ys zs : List ℕ) → length xs ≡ 16 → ys ≡ take 8 xs → zs ≡ take 8 (drop 8 xs) → at ys 0 ∷ at ys 1 ∷ at ys 2 ∷ at ys 3 ∷ at ys 4 ∷ at ys 5 ∷ at ys 6 ∷ at ys 7 ∷ at zs 0 ∷ at zs 1 ∷ at zs 2 ∷ at zs 3 ∷ at zs 4 ∷ at zs 5 ∷ at zs 6 ∷ at zs 7 ∷ [] ≡ xs
-sixteen xs ys zs h p q =
-    let a : length ys ≡ 8 = ap length p ∙ length-take 8 xs ∙ omega arith in
-    let l : length (drop 8 xs) ≡ 8 = length-drop 8 xs ∙ omega arith in
-    let b : length zs ≡ 8 = ap length q ∙ length-take 8 (drop 8 xs) ∙ omega arith in
-    let e : take 8 (drop 8 xs) ≡ drop 8 xs = take_all 8 (drop 8 xs) (omega arith) in
-    ap (λ (l : List ℕ). at ys 0 ∷ at ys 1 ∷ at ys 2 ∷ at ys 3 ∷ at ys 4 ∷ at ys 5 ∷ at ys 6 ∷ at ys 7 ∷ l) (eight zs b ∙ q ∙ e) ∙ ap (λ (l : List ℕ). l ++ drop 8 xs) (eight ys a ∙ p) ∙ take-append-drop 8 xs

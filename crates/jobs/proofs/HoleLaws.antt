@@ -3,7 +3,7 @@
 use Rattle.std.proofs.Common.{◌≡◌, ℕ, ◌+◌, ◌*◌, ◌<◌, ◌≤◌, true, false, cond, eqb, List, [], ◌∷◌, ◌++◌, length, drop, set, sym, refl, ap, ◌∙◌, inl, inr, arith}
 use borrow.Rule.Slice.PartMut.{put_mid}
 use Rattle.std.proofs.lemmas.List.{ext_get_or, length-take, length-drop, get_or-take, get_or-drop, get_or-set_same, get_or-set_other, length-set, append-nil, length-append}
-use Rattle.std.proofs.lemmas.Bool.{eq-eqb, ne_eqb, cases_eq, cases_lt}
+use Rattle.std.proofs.lemmas.Bool.{eq-eqb, ne_eqb, cases_lt}
 use Rattle.jobs.specs.Rows.{at, row_at, span, Only, WordsPut, Moved, Entry, entry_at, Closed}
 use Rattle.jobs.proofs.Words.{row_before, only_row, only_none, only_wide, only_then, put_only, put_row_lem}
 use Rattle.jobs.proofs.Spans.{span_none, span_more, span_same}

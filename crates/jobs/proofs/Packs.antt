@@ -1,8 +1,7 @@
 -- Bytes in words, and back.
 -- Assumes nothing.
-use Rattle.std.proofs.Common.{◌≡◌, ℕ, ◌+◌, ◌-◌, ◌*◌, ◌/◌, ◌%◌, ◌^◌, ◌<◌, ◌≤◌, List, [], ◌∷◌, length, sym, refl, ap, ◌∙◌, subst, inl, inr, arith}
+use Rattle.std.proofs.Common.{◌≡◌, ℕ, zero, suc, ◌+◌, ◌-◌, ◌*◌, ◌/◌, ◌%◌, ◌^◌, ◌<◌, ◌≤◌, List, [], ◌∷◌, length, refl, ap, ◌∙◌, arith}
 use Rattle.std.proofs.lemmas.List.{ext_get_or}
-use Rattle.std.proofs.lemmas.Bool.{cases_eq}
 use Rattle.jobs.specs.Rows.{at}
 use Rattle.jobs.specs.Tables.{byte_at, bytes_of}
 use Rattle.jobs.specs.Values.{packed}
@@ -10,39 +9,15 @@ use Rattle.jobs.proofs.Names.{length_bytes, get_d_bytes}
 
 -- what holds of 0 to 7 holds below 8
 below8 : (P : ℕ → Type 0) → P 0 → P 1 → P 2 → P 3 → P 4 → P 5 → P 6 → P 7 → (q : ℕ) → q < 8 → P q
-below8 P a b c d e f g h q l =
-    elim (cases_eq q 0) [
-      | inl z ↦ subst P (sym z) a
-      | inr n0 ↦
-          elim (cases_eq q 1) [
-            | inl z ↦ subst P (sym z) b
-            | inr n1 ↦
-                elim (cases_eq q 2) [
-                  | inl z ↦ subst P (sym z) c
-                  | inr n2 ↦
-                      elim (cases_eq q 3) [
-                        | inl z ↦ subst P (sym z) d
-                        | inr n3 ↦
-                            elim (cases_eq q 4) [
-                              | inl z ↦ subst P (sym z) e
-                              | inr n4 ↦
-                                  elim (cases_eq q 5) [
-                                    | inl z ↦ subst P (sym z) f
-                                    | inr n5 ↦
-                                        elim (cases_eq q 6) [
-                                          | inl z ↦ subst P (sym z) g
-                                          | inr n6 ↦
-                                              subst P (last q l n0 n1 n2 n3 n4 n5 n6) h
-                                        ]
-                                  ]
-                            ]
-                      ]
-                ]
-          ]
-    ]
-  where
-    last : (q : ℕ) → q < 8 → (q ≡ 0 → ⊥) → (q ≡ 1 → ⊥) → (q ≡ 2 → ⊥) → (q ≡ 3 → ⊥) → (q ≡ 4 → ⊥) → (q ≡ 5 → ⊥) → (q ≡ 6 → ⊥) → 7 ≡ q
-    last q l n0 n1 n2 n3 n4 n5 n6 = omega arith
+below8 P a b c d e f g h zero l = a
+below8 P a b c d e f g h (suc zero) l = b
+below8 P a b c d e f g h (suc (suc zero)) l = c
+below8 P a b c d e f g h (suc (suc (suc zero))) l = d
+below8 P a b c d e f g h (suc (suc (suc (suc zero)))) l = e
+below8 P a b c d e f g h (suc (suc (suc (suc (suc zero))))) l = f
+below8 P a b c d e f g h (suc (suc (suc (suc (suc (suc zero)))))) l = g
+below8 P a b c d e f g h (suc (suc (suc (suc (suc (suc (suc zero))))))) l = h
+below8 P a b c d e f g h (suc (suc (suc (suc (suc (suc (suc (suc q)))))))) l = absurd (omega arith)
 
 -- byte j of a word
 digit : (bs : List ℕ) (o : ℕ) → ((k : ℕ) → at bs k < 256) → (j : ℕ) → j < 8 → packed bs o / 2 ^ (56 - 8 * j) % 256 ≡ at bs (o + j)
@@ -55,7 +30,7 @@ module _ (bs : List ℕ) (low : (k : ℕ) → at bs k < 256) where
   abbrev pub words : List ℕ
   words = packed bs 0 ∷ packed bs 8 ∷ packed bs 16 ∷ packed bs 24 ∷ packed bs 32 ∷ packed bs 40 ∷ packed bs 48 ∷ packed bs 56 ∷ []
 
-  word_at : (q : ℕ) → q < 8 → at words q ≡ packed bs (8 * q)
+  pub word_at : (q : ℕ) → q < 8 → at words q ≡ packed bs (8 * q)
   word_at = below8 (λ q. at words q ≡ packed bs (8 * q)) refl refl refl refl refl refl refl refl
 
   byte_back : (k : ℕ) → k < 64 → byte_at words k ≡ at bs k
@@ -67,6 +42,3 @@ module _ (bs : List ℕ) (low : (k : ℕ) → at bs k < 256) where
 
   pub name_back : (n : ℕ) → n ≡ length bs → n ≤ 64 → bytes_of n words ≡ bs
   name_back n e l = ext_get_or 0 (bytes_of n words) bs (length_bytes n words ∙ e) (λ k h. let m : k < n = omega (arith, length_bytes n words) in get_d_bytes n words k m ∙ byte_back k (omega arith))
-
-  pub name_packed : (n a b c d e f g h : ℕ) → n ≡ length bs → n ≤ 64 → a ≡ packed bs 0 → b ≡ packed bs 8 → c ≡ packed bs 16 → d ≡ packed bs 24 → e ≡ packed bs 32 → f ≡ packed bs 40 → g ≡ packed bs 48 → h ≡ packed bs 56 → bytes_of n (a ∷ b ∷ c ∷ d ∷ e ∷ f ∷ g ∷ h ∷ []) ≡ bs
-  name_packed n a b c d e f g h l m p0 p1 p2 p3 p4 p5 p6 p7 = rw (p0, p1, p2, p3, p4, p5, p6, p7) (name_back n l m)

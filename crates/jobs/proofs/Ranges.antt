@@ -1,15 +1,14 @@
 -- Chains over `0..n` and counts, said of the rows with these numbers.
 -- Assumes nothing.
-use Rattle.std.proofs.Common.{◌≡◌, ℕ, zero, suc, ◌+◌, ◌-◌, ◌<◌, ◌≤◌, Bool, true, false, cond, List, [], ◌∷◌, ◌++◌, length, Option, None, Some, MatchOption, not, ◌&&◌, ◌||◌, ◌==◌, sym, refl, ap, ◌∙◌, subst, inl, inr, arith}
+use Rattle.std.proofs.Common.{◌≡◌, ℕ, zero, suc, ◌+◌, ◌<◌, ◌≤◌, Bool, true, false, cond, List, [], ◌∷◌, length, Option, None, Some, MatchOption, not, ◌&&◌, ◌||◌, ◌==◌, sym, refl, ◌∙◌, subst, inl, inr, arith}
 use Rattle.std.proofs.lemmas.List.{length-append}
 use Rattle.std.proofs.lemmas.Bool.{cases_Bool, true≢false}
 use Rattle.std.proofs.lemmas.List.FromFn.{get_or-range_with_len, length-range_with_len}
 use Rattle.std.specs.Bool.{MatchBool}
 use Rattle.std.specs.List.{AllWithin, HoldsAt, range_with_len}
 use Rattle.model.specs.Lists.{find, some}
-use Rattle.jobs.specs.Rows.{at, row_at, span, Entry, entry_at}
+use Rattle.jobs.specs.Rows.{at, row_at, span, entry_at}
 use Rattle.jobs.specs.Tables.{FoundAt}
-use Rattle.jobs.proofs.Spans.{span_none, span_more, span_at, span_end}
 use Rattle.jobs.proofs.Finds.{find_start, find_hole, find_other, find_this}
 
 -- spans of rows that stand for as many are as long

@@ -9,9 +9,7 @@ ghost use Rattle.jobs.specs.Tables.{state_of};
 pub fn clear(words: &mut [u64])
     ensures { (k : ℕ) → at words.new k ≡ 0 }
 {
-    for w in words.iter_mut() {
-        *w = 0;
-    }
+    words.fill(0);
 }
 
 // The power fails and comes back: who was heard and who is ready is lost, and so is the time.

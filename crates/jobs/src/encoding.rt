@@ -13,10 +13,9 @@ use crate::machine::Machine;
 fn version_word(version: Version) -> u64
     ensures { result ≡ version_word_lem version.0 }
 {
-    if version.0 == 0 {
-        4294967296
-    } else {
-        version.0 as u64
+    match version.0 {
+        0 => 4_294_967_296,
+        n => u64::from(n),
     }
 }
 
@@ -24,36 +23,23 @@ fn version_word(version: Version) -> u64
 fn job_words(job: Job) -> [u64; 26]
     ensures { result ≡ job_words_lem job }
 {
-    let tags = job.spec.tags;
-    let name = job.name.words;
-    [
+    let spec = job.spec;
+    let mut row = [0; 26];
+    row[..6].copy_from_slice(&[
         version_word(job.version),
-        job.spec.image as u64,
-        job.spec.cpu as u64,
-        job.spec.mem as u64,
-        job.spec.apart as u64,
-        job.spec.count as u64,
-        tags[0] as u64,
-        tags[1] as u64,
-        tags[2] as u64,
-        tags[3] as u64,
-        tags[4] as u64,
-        tags[5] as u64,
-        tags[6] as u64,
-        tags[7] as u64,
-        job.name.len as u64,
-        name[0],
-        name[1],
-        name[2],
-        name[3],
-        name[4],
-        name[5],
-        name[6],
-        name[7],
-        job.count as u64,
-        job.least as u64,
-        job.most as u64,
-    ]
+        u64::from(spec.image),
+        u64::from(spec.cpu),
+        u64::from(spec.mem),
+        u64::from(spec.apart),
+        u64::from(spec.count),
+    ]);
+    row[6..14].copy_from_slice(&spec.tags.map(|tag| u64::from(tag)));
+    row[14] = u64::from(job.name.len);
+    row[15..23].copy_from_slice(&job.name.words);
+    row[23] = u64::from(job.count);
+    row[24] = u64::from(job.least);
+    row[25] = u64::from(job.most);
+    row
 }
 
 // A job's row, which stands for that job.
@@ -64,54 +50,22 @@ pub fn encode_job(job: Job) -> [u64; 26]
     job_words(job)
 }
 
-// Eight tags as words.
-fn tag_words(tags: &[u32]) -> [u64; 8]
-    requires { length tags.now ≡ 8 }
-    ensures { result ≡ tags.now }
-{
-    [
-        tags[0] as u64,
-        tags[1] as u64,
-        tags[2] as u64,
-        tags[3] as u64,
-        tags[4] as u64,
-        tags[5] as u64,
-        tags[6] as u64,
-        tags[7] as u64,
-    ]
-}
-
 // The row of a machine that is new: open, and nothing heard of it.
 pub fn encode_machine(m: Machine) -> [u64; 24]
     ensures there { at result 0 ≡ 1 }
     ensures back { machine_from result 0 ≡ new_machine m.num.0 m.cpu m.mem (take m.count m.tags) }
 {
-    let a = tag_words(&m.tags[0..8]);
-    let b = tag_words(&m.tags[8..16]);
-    [
+    let mut row = [0; 24];
+    row[..8].copy_from_slice(&[
         1,
-        m.num.0 as u64,
-        m.cpu as u64,
-        m.mem as u64,
+        u64::from(m.num.0),
+        u64::from(m.cpu),
+        u64::from(m.mem),
         1,
         0,
         0,
-        m.count as u64,
-        a[0],
-        a[1],
-        a[2],
-        a[3],
-        a[4],
-        a[5],
-        a[6],
-        a[7],
-        b[0],
-        b[1],
-        b[2],
-        b[3],
-        b[4],
-        b[5],
-        b[6],
-        b[7],
-    ]
+        u64::from(m.count),
+    ]);
+    row[8..].copy_from_slice(&m.tags.map(|tag| u64::from(tag)));
+    row
 }

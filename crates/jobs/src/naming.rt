@@ -14,8 +14,7 @@ fn byte_at(words: &[u64], k: u8) -> u8
     requires within { k < 64 }
     ensures { result ≡ byte_at words.now k }
 {
-    let w = words[(k / 8) as usize];
-    ((w >> (56 - 8 * (k % 8))) % 256) as u8
+    words[usize::from(k / 8)].to_be_bytes()[usize::from(k % 8)]
 }
 
 impl Kind<'_> {

@@ -8,7 +8,7 @@ use crate::name::Name;
 fn byte_or_zero(bytes: &[u8], k: usize) -> u8
     ensures { result ≡ slice_index bytes.now k }
 {
-    if k < bytes.len() { bytes[k] } else { 0 }
+    bytes.get(k).copied().unwrap_or(0)
 }
 
 // Eight bytes from `o` on, in one word.
@@ -16,16 +16,7 @@ fn word_from(bytes: &[u8], o: usize) -> u64
     requires { o < 64 }
     ensures { result ≡ packed bytes.now o }
 {
-    u64::from_be_bytes([
-        byte_or_zero(bytes, o),
-        byte_or_zero(bytes, o + 1),
-        byte_or_zero(bytes, o + 2),
-        byte_or_zero(bytes, o + 3),
-        byte_or_zero(bytes, o + 4),
-        byte_or_zero(bytes, o + 5),
-        byte_or_zero(bytes, o + 6),
-        byte_or_zero(bytes, o + 7),
-    ])
+    u64::from_be_bytes(std::array::from_fn(|k| byte_or_zero(bytes, o + k)))
 }
 
 // The name of those bytes; refused where they are more than 64.
@@ -37,15 +28,6 @@ pub fn name_of_bytes(bytes: &[u8]) -> Option<Name>
     }
     Some(Name {
         len: bytes.len() as u8,
-        words: [
-            word_from(bytes, 0),
-            word_from(bytes, 8),
-            word_from(bytes, 16),
-            word_from(bytes, 24),
-            word_from(bytes, 32),
-            word_from(bytes, 40),
-            word_from(bytes, 48),
-            word_from(bytes, 56),
-        ],
+        words: std::array::from_fn(|w| word_from(bytes, 8 * w)),
     })
 }

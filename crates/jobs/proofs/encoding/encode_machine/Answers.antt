@@ -1,12 +1,11 @@
-use Rattle.std.proofs.Common.{ℕ, List, ◌∷◌, refl, ap, ◌∙◌, rules}
-use Rattle.jobs.specs.Tables.{machine_from}
-use Rattle.jobs.proofs.Back.{SizedMachine, machine_back, sixteen}
+use Rattle.std.proofs.Common.{◌≡◌, refl, sym, ◌∙◌, arith, rules, tests}
+use Rattle.std.proofs.lemmas.List.{append-nil, ext_get_or}
+use Rattle.jobs.proofs.Back.{SizedMachine, machine_back}
 use Rattle.jobs.proofs.encoding.encode_machine.Goals as goal
 
 pub returns : goal.returns
 returns c =
     let m = c.args.m in
     let s : SizedMachine m = search rules in
-    let t = sixteen m.tags c.tag_words-a.result c.tag_words-b.result s.tags c.tag_words-a.ensures c.tag_words-b.ensures in
-    let w = ap (λ (l : List ℕ). 1 ∷ m.num.0 ∷ m.cpu ∷ m.mem ∷ 1 ∷ 0 ∷ 0 ∷ m.count ∷ l) t in
-    record { there = refl; back = ap (λ (l : List ℕ). machine_from l 0) w ∙ machine_back m s }
+    let a : c.map.result ≡ m.tags = ext_get_or 0 _ _ (c.map.ensures.items.long ∙ sym s.tags) (λ k h. let u = c.map.ensures.items.at k 0 0 (omega (arith, c.map.ensures.items.long)) in let v = u.2 in search (rules, tests)) in
+    rw (c.copy_from_slice.ensures.after, c.copy_from_slice-2.ensures.after ∙ a, c.from.ensures, c.from-2.ensures, c.from-3.ensures, c.from-4.ensures, append-nil) (record { there = refl; back = machine_back m s })

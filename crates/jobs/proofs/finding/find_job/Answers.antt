@@ -1,9 +1,9 @@
-use Rattle.std.proofs.Common.{◌≡◌, ℕ, ◌==◌, true, false, List, sym, ap, ◌∙◌, subst, rules, tests, arith}
+use Rattle.std.proofs.Common.{◌≡◌, ℕ, ◌==◌, true, false, subst, rules, tests}
 use Rattle.std.proofs.lemmas.Iterator.{first_from_Range}
 use Rattle.model.specs.Lists.{some}
 use Rattle.model.specs.State.{is_job}
 use Rattle.jobs.specs.Rows.{at, row_at}
-use Rattle.jobs.specs.Tables.{FoundAt, job_at, job_from_lem, job_slot}
+use Rattle.jobs.specs.Tables.{FoundAt, job_at, job_from_lem}
 use Rattle.jobs.specs.Values.{name_of}
 use Rattle.jobs.proofs.Ranges.{found_in_range}
 use Rattle.jobs.proofs.finding.find_job.Goals as goal

@@ -1,5 +1,5 @@
 use Rattle.std.proofs.Common.{[], ◌∙◌}
-use Rattle.jobs.specs.Rows.{at, entry_at}
+use Rattle.jobs.specs.Rows.{entry_at}
 use Rattle.jobs.specs.Tables.{machine_at, machine_rows_lem}
 use Rattle.jobs.proofs.Ranges.{span_long, one_or_none}
 use Rattle.jobs.proofs.machine_rows.count_machines.Goals as goal

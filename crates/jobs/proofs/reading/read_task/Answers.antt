@@ -1,4 +1,4 @@
-use Rattle.std.proofs.Common.{ℕ, ◌+◌, List, sym, refl, ap, ◌∙◌}
+use Rattle.std.proofs.Common.{ℕ, ◌+◌, List, sym, ap, ◌∙◌}
 use Rattle.jobs.specs.Rows.{at}
 use Rattle.jobs.specs.Tables.{task_from, task_slot, version_from_lem, spec_from_lem}
 use Rattle.jobs.proofs.Ranges.{slot_gone, slot_there}

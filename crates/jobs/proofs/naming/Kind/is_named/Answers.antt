@@ -1,4 +1,4 @@
-use Rattle.std.proofs.Common.{◌≡◌, ℕ, ◌<◌, true, false, min, take, drop, sym, refl, arith, rules, tests}
+use Rattle.std.proofs.Common.{◌≡◌, min, take, drop, sym, refl, arith, rules, tests}
 use Rattle.jobs.specs.Rows.{at}
 use Rattle.jobs.specs.Tables.{byte_at}
 use Rattle.std.proofs.lemmas.Iterator.{YieldsList-from_range, cases_from_all}

@@ -1,4 +1,4 @@
-use Rattle.std.proofs.Common.{◌≡◌, ℕ, ◌+◌, ◌==◌, [], ◌∷◌, List, length, min, sym, ap, ◌∙◌, arith, rules}
+use Rattle.std.proofs.Common.{◌≡◌, ℕ, ◌+◌, ◌==◌, [], List, length, min, sym, ap, ◌∙◌, arith, rules}
 use Rattle.jobs.specs.Rows.{at, row_at, span, entry_at}
 use Rattle.jobs.proofs.Spans.{span_none}
 use Rattle.jobs.proofs.Ranges.{entry_hole, entry_full}
