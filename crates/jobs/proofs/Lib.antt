@@ -15,3 +15,4 @@ pub mod Packs
 pub mod FoundLaws
 pub mod SweepLaws
 pub mod Ranges
+pub mod Marks

@@ -9,6 +9,8 @@ use Rattle.jobs.specs.declared.machine.Machine.{Machine}
 use Rattle.jobs.specs.Rows.{at}
 use Rattle.jobs.specs.declared.phase.Phase.{Phase}
 use Rattle.jobs.specs.declared.phase.Phase.TheVariants.{Waiting, Told, Ready, Ending}
+use Rattle.jobs.specs.declared.phase.Mark.{Mark}
+use Rattle.jobs.specs.declared.phase.Mark.TheVariants as m
 use Rattle.jobs.specs.Tables.{bytes_of}
 
 abbrev pub name_of : Name → s.Name
@@ -16,6 +18,10 @@ name_of n = bytes_of n.len n.words
 
 abbrev pub spec_of : Spec → s.Spec
 spec_of a = record { image = a.image; cpu = a.cpu; mem = a.mem; tags = take a.count a.tags; apart = a.apart }
+
+-- the mark of a row, by its word
+abbrev pub mark_of : ℕ → Mark
+mark_of w = cond (w == 0) m.Waiting (cond (w == 1) m.Placed m.Ending)
 
 abbrev pub phase_of : Phase → s.Phase
 phase_of Waiting = s.Waiting

@@ -15,3 +15,11 @@ pub enum Phase {
     Ready(Place),
     Ending(Place),
 }
+
+// What a task's row says of that: it waits, is on a machine, or is ending there; whether it is ready stands elsewhere.
+#[derive(Clone, Copy, PartialEq, Eq)]
+pub enum Mark {
+    Waiting = 0,
+    Placed = 1,
+    Ending = 2,
+}

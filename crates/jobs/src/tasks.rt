@@ -3,12 +3,12 @@ ghost use Rattle.std.specs.Prelude.{◌≡◌, ℕ, ◌+◌, ◌*◌, ◌%◌, �
 ghost use Rattle.jobs.specs.Layout.{home_words_lem, live_words};
 ghost use Rattle.jobs.specs.Rows.{at};
 ghost use Rattle.jobs.specs.Tables.{low, spec_from_lem, version_from_lem, phase_from_lem, task_at, TaskPut};
-ghost use Rattle.jobs.specs.Values.{spec_of, phase_of, machine_of, life_of};
+ghost use Rattle.jobs.specs.Values.{spec_of, phase_of, machine_of, life_of, mark_of};
 ghost use Rattle.jobs.specs.Changes.{end_each, place_each, mark_each};
 
 use crate::ids::{Life, MachineId, TaskId};
 use crate::layout::*;
-use crate::phase::{Phase, Place};
+use crate::phase::{Mark, Phase, Place};
 use crate::rows::{TASKS, TaskRow};
 
 // Ends the task in row `i`: one that waits is gone, any other is ending.
@@ -17,11 +17,11 @@ pub fn end_task(home: &mut [u64], i: usize)
     requires within { i < 2048 }
     ensures { (live : List ℕ) → TaskPut i (end_each (task_at home.old live i)) home.old live home.new live }
 {
-    let start = TASK_BASE + i * TASK_WIDTH;
-    if home[start + 1] == 0 {
-        home[start] = 0;
-    } else {
-        home[start + 1] = 2;
+    match TASKS.row(home, i).mark() {
+        Mark::Waiting => TASKS.remove(home, i),
+        Mark::Placed | Mark::Ending => {
+            home[TASK_BASE + i * TASK_WIDTH + 1] = Mark::Ending as u64;
+        }
     }
 }
 
@@ -42,8 +42,8 @@ pub fn place_task(home: &mut [u64], live: &mut [u64], i: usize, place: Place)
     ensures { TaskPut i (place_each place.machine.0 place.life.0 (task_at home.old live.old i)) home.old live.old home.new live.new }
 {
     let start = TASK_BASE + i * TASK_WIDTH;
-    home[start + 1] = 1;
-    home[start + 2] = place.machine.0 as u64;
+    home[start + 1] = Mark::Placed as u64;
+    home[start + 2] = u64::from(place.machine.0);
     home[start + 3] = place.life.0;
     live[READY_BASE + i] = 0;
 }
@@ -54,7 +54,7 @@ pub fn mark_task(live: &mut [u64], i: usize, ready: bool)
     requires within { i < 2048 }
     ensures { (home : List ℕ) → home_words_lem ≤ length home → TaskPut i (mark_each ready (task_at home live.old i)) home live.old home live.new }
 {
-    live[READY_BASE + i] = ready as u64;
+    live[READY_BASE + i] = u64::from(ready);
 }
 
 impl TaskRow<'_> {
@@ -71,6 +71,17 @@ impl TaskRow<'_> {
         MachineId((self.words[2] % 65536) as u16)
     }
 
+    // Whether it waits, is on its machine, or is ending there.
+    pub fn mark(self) -> Mark
+        ensures { result ≡ mark_of (at self.entry.words.now 1) }
+    {
+        match self.words[1] {
+            0 => Mark::Waiting,
+            1 => Mark::Placed,
+            _ => Mark::Ending,
+        }
+    }
+
     // Its phase, by the word in `live` that says whether it is ready.
     pub fn phase(self, ready: u64) -> Phase
         ensures phase { phase_of result ≡ phase_from_lem (at self.entry.words.now 1) ready }
@@ -81,11 +92,11 @@ impl TaskRow<'_> {
             machine: self.machine(),
             life: Life(self.words[3]),
         };
-        match self.words[1] {
-            0 => Phase::Waiting,
-            1 if ready == 0 => Phase::Told(place),
-            1 => Phase::Ready(place),
-            _ => Phase::Ending(place),
+        match self.mark() {
+            Mark::Waiting => Phase::Waiting,
+            Mark::Placed if ready == 0 => Phase::Told(place),
+            Mark::Placed => Phase::Ready(place),
+            Mark::Ending => Phase::Ending(place),
         }
     }
 }

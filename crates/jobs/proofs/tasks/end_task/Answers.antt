@@ -1,11 +1,14 @@
-use Rattle.std.proofs.Common.{sym, ◌∙◌, arith}
-use Rattle.std.proofs.lemmas.Bool.{eq-eqb, ne_eqb}
-use Rattle.jobs.proofs.TaskRows.{ends, ends_gone, word_at}
+use Rattle.std.proofs.Common.{ℕ, List, sym, ap, ◌∙◌, inl, inr}
+use Rattle.jobs.specs.Rows.{at}
+use Rattle.jobs.specs.Values.{mark_of}
+use Rattle.jobs.proofs.Marks.{waits, waits_not}
+use Rattle.jobs.proofs.TaskRows.{ends, ends_gone}
 use Rattle.jobs.proofs.tasks.end_task.Goals as goal
 
-pub returns-then-home-start-eq0 : goal.returns-then-home-start-eq0
-returns-then-home-start-eq0 c = ends_gone c.args.home.now c.args.i c.requires.words c.requires.within (eq-eqb _ _ (word_at c.args.home.now c.args.i 1 (omega arith) ∙ c.if-home-start-eq0.true))
+pub returns-in-Waiting : goal.returns-in-Waiting
+returns-in-Waiting c = rw c.remove.ensures (ends_gone c.args.home.now c.args.i c.requires.words c.requires.within (waits _ (ap (λ (r : List ℕ). mark_of (at r 1)) (sym c.row.ensures) ∙ sym c.mark.ensures ∙ c.in-Waiting.is)))
 
-pub returns-else-home-start-eq0 : goal.returns-else-home-start-eq0
-returns-else-home-start-eq0 c =
-    ends c.args.home.now c.args.i c.requires.words c.requires.within (ne_eqb _ _ (λ e. c.if-home-start-eq0.false (sym (word_at c.args.home.now c.args.i 1 (omega arith)) ∙ e)))
+pub returns-in-Placed : goal.returns-in-Placed
+returns-in-Placed c =
+    let m = ap (λ (r : List ℕ). mark_of (at r 1)) (sym c.row.ensures) ∙ sym c.mark.ensures in
+    ends c.args.home.now c.args.i c.requires.words c.requires.within (waits_not _ (elim c.in-Placed.is [ inl e ↦ inl (m ∙ e) | inr e ↦ inr (m ∙ e) ]))
