@@ -13,17 +13,7 @@ fn decode_one(bytes: &[u8], i: usize) -> u64
     requires { 8 * i + 8 ≤ length bytes.now }
     ensures { result ≡ word_at bytes.now i }
 {
-    let at = 8 * i;
-    u64::from_be_bytes([
-        bytes[at],
-        bytes[at + 1],
-        bytes[at + 2],
-        bytes[at + 3],
-        bytes[at + 4],
-        bytes[at + 5],
-        bytes[at + 6],
-        bytes[at + 7],
-    ])
+    u64::from_be_bytes(std::array::from_fn(|k| bytes[8 * i + k]))
 }
 
 // The words of bytes.
@@ -31,7 +21,7 @@ pub fn decode(bytes: &[u8], words: &mut [u64])
     requires { 8 * length words.old ≤ length bytes.now }
     ensures { (i : ℕ) → i < length words.old → slice_index words.new i ≡ word_at bytes.now i }
 {
-    for i in 0..words.len() {
-        words[i] = decode_one(bytes, i);
+    for (i, word) in words.iter_mut().enumerate() {
+        *word = decode_one(bytes, i);
     }
 }

@@ -19,20 +19,14 @@ impl Kept for Filed<'_> {
     ghost word = { λ s a. slice_index s.mirror.now a };
 
     fn load(&self, at: usize) -> u64 {
-        if at < self.mirror.len() {
-            self.mirror[at]
-        } else {
-            0
-        }
+        self.mirror.get(at).copied().unwrap_or(0)
     }
 
     fn store(&mut self, at: usize, w: u64) -> Result<(), Dark> {
         if at >= self.mirror.len() {
             return Err(Dark);
         }
-        if write_word(&mut self.file, at, w).is_err() {
-            return Err(Dark);
-        }
+        write_word(&mut self.file, at, w).map_err(|_| Dark)?;
         self.mirror[at] = w;
         Ok(())
     }

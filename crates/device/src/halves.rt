@@ -43,22 +43,22 @@ fn differ<K: Kept>(words: &K, from: usize, home: &[u64]) -> usize
     ensures { Ended (differs from 0 home.now) (K.word words.now) result (K.word words.now) }
 {
     let mut n = 0;
-    for i in 0..home.len() {
-        if words.load(from + i) != home[i] {
+    for (i, word) in home.iter().enumerate() {
+        if words.load(from + i) != *word {
             n += 1;
         }
     }
     n
 }
 
-// Stores each word that differs.
+// Stores each word that differs: in the half that holds, or in the other, which nothing looks at yet.
 fn copy<K: Kept>(words: &mut K, from: usize, home: &[u64]) -> Result<(), Dark>
     requires { from + length home.now ≤ 262144 }
     ensures { Follows (copies from home.now) (K.word words.old) result (tt {0}) (K.word words.new) }
 {
-    for i in 0..home.len() {
-        if words.load(from + i) != home[i] {
-            words.store(from + i, home[i])?;
+    for (i, word) in home.iter().enumerate() {
+        if words.load(from + i) != *word {
+            words.store(from + i, *word)?;
         }
     }
     Ok(())
@@ -69,33 +69,8 @@ fn read<K: Kept>(words: &K, from: usize, home: &mut [u64])
     requires { from + length home.old ≤ 262144 }
     ensures { (j : ℕ) → j < length home.old → slice_index home.new j ≡ K.word words.now (from + j) }
 {
-    for i in 0..home.len() {
-        home[i] = words.load(from + i);
-    }
-}
-
-impl Places {
-    // Stores in place, in the half that holds.
-    fn change_held<K: Kept>(self, words: &mut K, home: &[u64]) -> Result<(), Dark>
-        requires { (self.held + length home.now ≤ 262144) × (self.spare + length home.now ≤ 262144) }
-        ensures { Follows (copies self.held home.now) (K.word words.old) result (tt {0}) (K.word words.new) }
-    {
-        copy(words, self.held, home)
-    }
-
-    // Stores in the other half, which nothing looks at yet.
-    fn fill_spare<K: Kept>(self, words: &mut K, home: &[u64]) -> Result<(), Dark>
-        requires { (self.held + length home.now ≤ 262144) × (self.spare + length home.now ≤ 262144) }
-        ensures { Follows (copies self.spare home.now) (K.word words.old) result (tt {0}) (K.word words.new) }
-    {
-        copy(words, self.spare, home)
-    }
-
-    fn read_held<K: Kept>(self, words: &K, home: &mut [u64])
-        requires { (self.held + length home.old ≤ 262144) × (self.spare + length home.old ≤ 262144) }
-        ensures { (j : ℕ) → j < length home.old → slice_index home.new j ≡ K.word words.now (self.held + j) }
-    {
-        read(words, self.held, home);
+    for (i, word) in home.iter_mut().enumerate() {
+        *word = words.load(from + i);
     }
 }
 
@@ -108,9 +83,9 @@ pub fn commit<K: Kept>(words: &mut K, home: &[u64]) -> Result<(), Dark>
 {
     let at = locate(words.load(0), home.len());
     if differ(words, at.held, home) <= 1 {
-        return at.change_held(words, home);
+        return copy(words, at.held, home);
     }
-    at.fill_spare(words, home)?;
+    copy(words, at.spare, home)?;
     words.store(0, at.turned)
 }
 
@@ -146,5 +121,5 @@ pub fn wake<K: Kept>(words: &K, home: &mut [u64])
     ensures whole { (h : List ℕ) → length h ≡ length home.old → Holds h (K.word words.now) → home.new ≡ h }
 {
     let at = locate(words.load(0), home.len());
-    at.read_held(words, home);
+    read(words, at.held, home);
 }

@@ -13,21 +13,21 @@ pub returns-then-differ-le1 : goal.returns-then-differ-le1
 returns-then-differ-le1 g c =
     let h = c.args.home.now in
     let m : Memory = g.K.Kept.word c.args.words.now in
-    let n : Memory = g.K.Kept.word c.change_held.new.words in
-    let f : Follows (commits h) m c.change_held.result tt n =
-    in_place h m c.load.result c.load.ensures c.locate-at.result.held c.locate-at.result.spare c.locate-at.result.turned c.locate-at.ensures.holds c.locate-at.ensures.other c.locate-at.ensures.turns c.differ.result c.differ.ensures n c.change_held.result c.if-differ-le1.true c.change_held.ensures in
-    record { follows = f; whole = whole h m n c.change_held.result c.requires (λ i. omega (arith, c.type_inv.home i)) f; budget = budget h m }
+    let n : Memory = g.K.Kept.word c.copy.new.words in
+    let f : Follows (commits h) m c.copy.result tt n =
+    in_place h m c.load.result c.load.ensures c.locate-at.result.held c.locate-at.result.spare c.locate-at.result.turned c.locate-at.ensures.holds c.locate-at.ensures.other c.locate-at.ensures.turns c.differ.result c.differ.ensures n c.copy.result c.if-differ-le1.true c.copy.ensures in
+    record { follows = f; whole = whole h m n c.copy.result c.requires (λ i. omega (arith, c.type_inv.home i)) f; budget = budget h m }
 
-pub returns-in_err-fill_spare : goal.returns-in_err-fill_spare
-returns-in_err-fill_spare g c =
+pub returns-in_err-copy : goal.returns-in_err-copy
+returns-in_err-copy g c =
     let h = c.args.home.now in
     let m : Memory = g.K.Kept.word c.args.words.now in
-    let n : Memory = g.K.Kept.word c.fill_spare.new.words in
+    let n : Memory = g.K.Kept.word c.copy-2.new.words in
     let p = err_from_is_err_and c.from_residual.result c.from_residual.ensures.1 in
     let k : Halfway (commits h) m n =
     leads_part_cut (λ _. store 0 c.locate-at.result.turned (done tt))
     (turns h m c.load.result c.load.ensures c.locate-at.result.held c.locate-at.result.spare c.locate-at.result.turned c.locate-at.ensures.holds c.locate-at.ensures.other c.locate-at.ensures.turns c.differ.result c.differ.ensures c.if-differ-le1.false)
-    c.in_err-fill_spare.ensures in
+    c.in_err-copy.ensures in
     let f : Follows (commits h) m c.from_residual.result tt n = rw p.1 k in
     record { follows = f; whole = whole h m n c.from_residual.result c.requires (λ i. omega (arith, c.type_inv.home i)) f; budget = budget h m }
 
@@ -37,9 +37,9 @@ returns g c =
     let m : Memory = g.K.Kept.word c.args.words.now in
     let n : Memory = g.K.Kept.word c.store.new.self in
     let f : Follows (commits h) m c.store.result tt n =
-    follows_store 0 c.locate-at.result.turned tt (g.K.Kept.word c.fill_spare.new.words) n c.store.result
+    follows_store 0 c.locate-at.result.turned tt (g.K.Kept.word c.copy-2.new.words) n c.store.result
     (leads_part (λ _. store 0 c.locate-at.result.turned (done tt))
     (turns h m c.load.result c.load.ensures c.locate-at.result.held c.locate-at.result.spare c.locate-at.result.turned c.locate-at.ensures.holds c.locate-at.ensures.other c.locate-at.ensures.turns c.differ.result c.differ.ensures c.if-differ-le1.false)
-    c.in_ok-fill_spare.ensures)
+    c.in_ok-copy.ensures)
     c.store.ensures in
     record { follows = f; whole = whole h m n c.store.result c.requires (λ i. omega (arith, c.type_inv.home i)) f; budget = budget h m }

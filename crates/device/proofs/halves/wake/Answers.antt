@@ -8,6 +8,6 @@ pub returns : goal.returns
 returns g c =
     let size = length c.args.home.now in
     let m = g.K.Kept.word c.args.words.now in
-    let long : length c.read_held.new.home ≡ size = omega arith in
-    let e : Ended (wakening size) m c.read_held.new.home m = wakened m size c.locate-at.result.held c.load.result c.read_held.new.home c.load.ensures c.locate-at.ensures.holds long (λ j lt. sym (c.read_held.ensures j (omega arith))) in
-    record { follows = e; whole = λ h l held. wakened_held m size h c.read_held.new.home l held e }
+    let long : length c.read.new.home ≡ size = omega arith in
+    let e : Ended (wakening size) m c.read.new.home m = wakened m size c.locate-at.result.held c.load.result c.read.new.home c.load.ensures c.locate-at.ensures.holds long (λ j lt. sym (c.read.ensures j (omega arith))) in
+    record { follows = e; whole = λ h l held. wakened_held m size h c.read.new.home l held e }
