@@ -20,6 +20,7 @@ pub fn put(out: &mut [u8], number: u64)
     ensures { out.new ≡ bytes_of (length out.old) number }
 {
     let mut n = number;
+    // By index: what a reversed `iter_mut` leaves in the slice was tried, and its proof did not close.
     for i in (0..out.len()).rev() {
         out[i] = (n % 256) as u8;
         n /= 256;
