@@ -83,6 +83,7 @@ impl<const BASE: usize, const WIDTH: usize, const MOST: usize, const COUNTED: us
         ensures { Closed BASE WIDTH (min (at home.old COUNTED) MOST) home.old flags.old home.new flags.new result }
     {
         let mut to = 0;
+        // By index: rows move within the words that they are read from.
         for i in 0..self.in_use(home) {
             if home[BASE + i * WIDTH] != 0 {
                 move_words(home, BASE + i * WIDTH, BASE + to * WIDTH, WIDTH);
