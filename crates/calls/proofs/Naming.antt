@@ -1,12 +1,12 @@
 -- Bytes as a name.
 -- Assumes nothing.
-use Rattle.std.proofs.Common.{◌≡◌, ◌<◌, ◌≤◌, ℕ, List, length, Some, None, Option, sym, ap, ◌∙◌, arith}
+use Rattle.std.proofs.Common.{◌≡◌, ◌<◌, ◌≤◌, ℕ, List, length, Some, None, Option, ap, arith}
 use Rattle.std.specs.Option.{MatchOption}
 use Rattle.std.proofs.lemmas.Bool.Decides.{nat_tests}
 use Rattle.jobs.specs.declared.name.Name.{Name}
 use Rattle.jobs.specs.Values.{name_of}
 use Rattle.jobs.proofs.Names.{length_bytes}
-use Rattle.calls.specs.Wanted.{NamedAs, name_ok}
+use Rattle.calls.specs.Wanted.{NamedAs}
 use Rattle.calls.proofs.Ranges.{name_ok_lem}
 
 -- bytes that are not none are a name, if they are not too many
