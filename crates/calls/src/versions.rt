@@ -36,8 +36,6 @@ pub fn next_version(kind: &[u64], spec: &Spec) -> Option<Version>
     if same_spec(kind, spec) {
         return Some(version);
     }
-    if version.0 == u32::MAX {
-        return None;
-    }
-    Some(Version(version.0 + 1))
+    let next = version.0.checked_add(1)?;
+    Some(Version(next))
 }
