@@ -8,10 +8,11 @@ ghost use Rattle.jobs.specs.Tables.{job_rows_lem, jobs_of, machine_rows_lem, mac
 ghost use Rattle.calls.specs.Sound.{first_job_lem, first_machine_lem, sound_tasks_lem, sound_words};
 
 use jobs::finding::{find_job, find_machine};
-use jobs::ids::MachineId;
 use jobs::layout::LAST_ID;
 use jobs::naming::name_from;
-use jobs::rows::{job_row, job_rows, machine_row, machine_rows, task_row, task_rows};
+use jobs::rows::{
+    job_row, job_rows, machine_number, machine_row, machine_rows, task_row, task_rows,
+};
 
 // Is the job in row `i`, if there is one, the first of its name.
 fn first_job(home: &[u64], i: usize) -> bool
@@ -36,7 +37,7 @@ fn first_machine(home: &[u64], i: usize) -> bool
     if row[0] == 0 {
         return true;
     }
-    find_machine(home, MachineId((row[1] % 65536) as u16)) == Some(i)
+    find_machine(home, machine_number(row[1])) == Some(i)
 }
 
 // Have all jobs different names.

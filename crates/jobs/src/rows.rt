@@ -1,8 +1,9 @@
 // The rows, as parts of the words.
-ghost use Rattle.std.specs.Prelude.{◌≡◌, ℕ, ◌+◌, ◌*◌, ◌<◌, ◌≤◌, min, length, drop};
+ghost use Rattle.std.specs.Prelude.{◌≡◌, ℕ, ◌+◌, ◌*◌, ◌%◌, ◌<◌, ◌≤◌, min, length, drop};
 ghost use Rattle.jobs.specs.Layout.{home_words_lem, live_words};
 ghost use Rattle.jobs.specs.Tables.{job_row_lem, machine_row_lem, task_row_lem, job_rows_lem, machine_rows_lem, task_rows_lem};
 
+use crate::ids::MachineId;
 use crate::layout::*;
 
 // Row `i` of the tasks.
@@ -67,4 +68,11 @@ pub fn machine_rows(home: &[u64]) -> usize
     ensures few { result ≤ 256 }
 {
     home[MACHINE_ROWS].min(256) as usize
+}
+
+// A machine's number, as it stands in a machine's row and in a task's.
+pub fn machine_number(word: u64) -> MachineId
+    ensures { result.0 ≡ word % 65536 }
+{
+    MachineId((word % 65536) as u16)
 }

@@ -75,8 +75,8 @@ pub fn choose(
         if !fits_on(row, live[r], spec, load, time) {
             continue;
         }
-        for a in 0..spec.count as usize {
-            if !has_tag(row, spec.tags[a]) {
+        for tag in &spec.tags[..usize::from(spec.count)] {
+            if !has_tag(row, *tag) {
                 continue 'machines;
             }
         }

@@ -7,12 +7,11 @@ ghost use Rattle.settling.specs.declared.load.Load.{Load as LoadT};
 ghost use Rattle.settling.specs.Place.{Loaded, weight_of, heavier, no_load, num_at};
 
 use crate::load::{Load, Weight};
-use jobs::ids::MachineId;
 use jobs::kinds::low_half;
 use jobs::layout::MAX_MACHINES;
 use jobs::name::Name;
 use jobs::naming::is_named;
-use jobs::rows::{machine_row, machine_rows, task_kind, task_row, task_rows};
+use jobs::rows::{machine_number, machine_row, machine_rows, task_kind, task_row, task_rows};
 
 // What the task in row `i` adds to its machine.
 fn weight(home: &[u64], i: usize, job: &Name) -> Option<Weight>
@@ -29,7 +28,7 @@ fn weight(home: &[u64], i: usize, job: &Name) -> Option<Weight>
     }
     let kind = task_kind(row);
     Some(Weight {
-        machine: MachineId((row[2] % 65536) as u16),
+        machine: machine_number(row[2]),
         cpu: low_half(kind[2]),
         mem: low_half(kind[3]),
         mine: is_named(kind, job),
