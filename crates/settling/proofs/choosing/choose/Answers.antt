@@ -1,4 +1,4 @@
-use Rattle.std.proofs.Common.{◌≡◌, ℕ, ◌-◌, true, false, List, [], ◌∷◌, get_or, take, sym, ap, ◌∙◌, arith, rules}
+use Rattle.std.proofs.Common.{◌≡◌, ℕ, ◌-◌, true, false, List, [], ◌∷◌, get_or, take, sym, ap, ◌∙◌, arith}
 use Rattle.model.specs.Lists.{keep, every}
 use Rattle.model.specs.State as s
 use Rattle.model.specs.Settle.{takes, best, left}
