@@ -1,10 +1,10 @@
 -- The one that is found in its row is changed there.
 -- Assumes nothing.
-use Rattle.std.proofs.Common.{◌≡◌, ℕ, ◌+◌, ◌-◌, ◌<◌, Bool, true, false, cond, eqb, List, [], ◌∷◌, ◌++◌, map, sym, ap, ◌∙◌, arith}
+use Rattle.std.proofs.Common.{◌≡◌, ℕ, ◌+◌, ◌-◌, ◌<◌, Bool, true, false, cond, eqb, List, [], ◌∷◌, ◌++◌, map, Option, sym, ap, ◌∙◌, subst, arith}
 use Rattle.model.specs.Lists.{find, change}
 use Rattle.model.specs.State as s
 use Rattle.jobs.specs.Rows.{at, span}
-use Rattle.jobs.specs.Tables.{span_with, machine_from, machine_slot, machine_at, machine_row_lem}
+use Rattle.jobs.specs.Tables.{FoundAt, span_with, machine_from, machine_slot, machine_at, machine_row_lem, machine_rows_lem}
 use Rattle.jobs.proofs.Spans.{span_at}
 
 module _ {A : Type 0} (p : A → Bool) (g : A → A) where
@@ -21,6 +21,10 @@ module _ {A : Type 0} (p : A → Bool) (g : A → A) where
   change_found f n i x h e t q =
       let old : span f 0 n ≡ span f 0 i ++ (x ∷ span f (i + 1) (n - (i + 1))) = span_at f i n h ∙ ap (λ (xs : List A). span f 0 i ++ (xs ++ span f (i + 1) (n - (i + 1)))) e in
       ap (λ (xs : List A). span f 0 i ++ (map g xs ++ span f (i + 1) (n - (i + 1)))) e ∙ sym (ap (change p g) old ∙ change_behind (span f 0 i) x (span f (i + 1) (n - (i + 1))) q t)
+
+-- what was found of a machine, as another term
+pub found_as : (k : ℕ) (home live : List ℕ) (o q : Option ℕ) → o ≡ q → FoundAt (s.is_machine k) (machine_at home live) (machine_rows_lem home) o → FoundAt (s.is_machine k) (machine_at home live) (machine_rows_lem home) q
+found_as k home live o q e w = subst (FoundAt (s.is_machine k) (machine_at home live) (machine_rows_lem home)) e w
 
 -- the machine in a slot that isn't a hole
 slot_some : (r : List ℕ) (h : ℕ) (m : s.Machine) → machine_slot r h ≡ m ∷ [] → machine_from r h ≡ m

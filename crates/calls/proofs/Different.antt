@@ -1,7 +1,11 @@
 -- Rows of which no two are alike by a test: each is the first of its kind.
 -- Assumes nothing.
-use Rattle.std.proofs.Common.{◌≡◌, ℕ, ◌+◌, ◌-◌, ◌%◌, ◌<◌, Bool, true, false, cond, not, ◌&&◌, eqb, List, [], ◌∷◌, ◌++◌, take, Some, None, Option, sym, refl, ap, ◌∙◌, subst, inl, inr, arith}
+use Rattle.std.proofs.Common.{add-one, zero-add, zero, suc, ◌≡◌, ℕ, ◌+◌, ◌-◌, ◌%◌, ◌<◌, Bool, true, false, cond, not, ◌&&◌, eqb, List, [], ◌∷◌, ◌++◌, take, Some, None, Option, sym, refl, ap, ◌∙◌, subst, inl, inr, arith}
+use Rattle.std.specs.Option.{option_eq}
+use Rattle.std.specs.List.{list_all, range_with_len}
+use Rattle.std.proofs.lemmas.List.FromFn.{length-range_with_len, get_or-range_with_len}
 use Rattle.std.proofs.lemmas.Bool.{not-true, eq-eqb, ne_eqb, cases_lt}
+use Rattle.std.proofs.lemmas.List.Sums.{AllPass-from_list_all, list_all-from_AllPass}
 use Rattle.model.specs.Lists.{some, every, find, same}
 use Rattle.model.specs.State as s
 use Rattle.model.specs.State.{is_job, is_machine}
@@ -16,7 +20,7 @@ use Rattle.jobs.specs.Rows.{at, span}
 use Rattle.jobs.specs.Tables.{FoundAt, name_from_lem, job_at, job_from_lem, job_row_lem, job_rows_lem, job_slot, jobs_of, machine_at, machine_from, machine_row_lem, machine_rows_lem, machine_slot, machines_of}
 use Rattle.jobs.proofs.Spans.{span_none, span_more, span_at}
 use Rattle.jobs.proofs.Finds.{slot_hole, slot_full}
-use Rattle.calls.specs.Sound.{first_job_lem, first_machine_lem, found_in_lem}
+use Rattle.calls.specs.Sound.{first_job_lem, first_machine_lem}
 
 in_front : {A : Type 0} (a : A) (xs ys : List A) → In a xs → In a (xs ++ ys)
 in_front a [] ys i = absurd i
@@ -52,6 +56,21 @@ module _ {X : Type 0} (e : X → X → Bool) (turn : (a b : X) → e a b ≡ fal
       subst (Once e) (sym (span_more f i))
       (once_append e (span f 0 i) (f i) o p (λ x y j k. turn y x (some_not (e y) (span f 0 i) (not-true _ (every_at (λ (z : X). not (some (e z) (span f 0 i))) (f i) t y k)) x j)))
 
+  -- all are different just if each is new
+  pub each_once : ((i : ℕ) → Once e (f i)) → (n : ℕ) (once : Bool) → (once ≡ true → Once e (span f 0 n)) → (Once e (span f 0 n) → once ≡ true) → list_all New (range_with_len 0 n) ≡ once
+  each_once one n once from to =
+      elim (bool (list_all New (range_with_len 0 n))) [
+        | inl t ↦ t ∙ sym (to (all n (λ i h. news t i h)))
+        | inr u ↦ elim (bool once) [ inl o ↦ clash _ (list_all-from_AllPass New (range_with_len 0 n) (λ k d h. let l : k < n = omega (arith, length-range_with_len 0 n) in ap New (get_or-range_with_len 0 n k d l ∙ zero-add k) ∙ new_from k n l (from o))) u | inr w ↦ u ∙ sym w ]
+      ]
+    where
+      all : (k : ℕ) → ((i : ℕ) → i < k → New i ≡ true) → Once e (span f 0 k)
+      all zero h = subst (Once e) (sym (span_none f 0)) tt
+      all (suc k) h = subst (λ (m : ℕ). Once e (span f 0 m)) (add-one k) (new_more k (all k (λ i l. h i (omega arith))) (one k) (h k (omega arith)))
+
+      news : list_all New (range_with_len 0 n) ≡ true → (i : ℕ) → i < n → New i ≡ true
+      news t i h = ap New (sym (zero-add i) ∙ sym (get_or-range_with_len 0 n i 0 h)) ∙ AllPass-from_list_all New (range_with_len 0 n) t i 0 (omega (arith, length-range_with_len 0 n))
+
   pub new_hole : (i : ℕ) → f i ≡ [] → true ≡ New i
   unfolding every
   new_hole i p = sym (ap (every (λ (x : X). not (some (e x) (span f 0 i)))) p)
@@ -78,7 +97,7 @@ module _ {X : Type 0} (e : X → X → Bool) (turn : (a b : X) → e a b ≡ fal
         itself q = eq-eqb k i q ∙ new_one i x false p (not_some (e x) (span f 0 i) (λ y j. find_none (e x) (span f 0 i) (ap (λ (z : ℕ). find (e x) (span f 0 z)) (sym q) ∙ w.5) y j))
 
     -- the first that is found like it is itself, or one before
-    pub new_found : (o : Option ℕ) → FoundAt (e x) f n o → found_in_lem i o ≡ New i
+    pub new_found : (o : Option ℕ) → FoundAt (e x) f n o → option_eq eqb o (Some i) ≡ New i
     new_found (Some k) w = new_some k w
     new_found None w = clash (e x x) r (find_none (e x) (span f 0 n) w x (in_span i n x h p))
 
@@ -97,23 +116,15 @@ pub job_hole : (home row : List ℕ) (i : ℕ) → row ≡ job_row_lem home i �
 job_hole home row i q z = new_hole alike_jobs turn_jobs (job_at home) i (ap job_slot (sym q) ∙ slot_hole (at row 0) (job_from_lem row) z)
 
 module _ (home row : List ℕ) (i : ℕ) (n : s.Name) (h : i < job_rows_lem home) (q : row ≡ job_row_lem home i) (ne : at row 0 ≡ 0 → ⊥) (named : n ≡ name_from_lem (take 23 row)) where
-  pub job_found : (o : Option ℕ) → FoundAt (is_job n) (job_at home) (job_rows_lem home) o → found_in_lem i o ≡ first_job_lem home i
+  pub job_found : (o : Option ℕ) → FoundAt (is_job n) (job_at home) (job_rows_lem home) o → option_eq eqb o (Some i) ≡ first_job_lem home i
   job_found o w =
       new_found alike_jobs turn_jobs (job_at home) i (job_rows_lem home) (job_from_lem row) h (job_in home row i q ne) (same_refl (job_from_lem row).name) o
       (subst (λ (m : s.Name). FoundAt (is_job m) (job_at home) (job_rows_lem home) o) named w)
 
-pub jobs_none : (home : List ℕ) → once_jobs (span (job_at home) 0 0) ≡ true
-unfolding once_jobs
-jobs_none home = ap once_jobs (span_none (job_at home) 0)
-
-pub jobs_more : (home : List ℕ) (i : ℕ) → once_jobs (span (job_at home) 0 i) ≡ true → first_job_lem home i ≡ true → once_jobs (span (job_at home) 0 (i + 1)) ≡ true
-jobs_more home i o t = jobs_to _ (new_more alike_jobs turn_jobs (job_at home) i (jobs_from _ o) (once_slot alike_jobs (eqb (at (job_row_lem home i) 0) 0) (job_from_lem (job_row_lem home i))) t)
-
-pub jobs_all : (home : List ℕ) (i : ℕ) → i ≡ job_rows_lem home → once_jobs (span (job_at home) 0 i) ≡ true → true ≡ once_jobs (jobs_of home)
-jobs_all home i q o = sym o ∙ ap (λ (n : ℕ). once_jobs (span (job_at home) 0 n)) q
-
-pub jobs_twice : (home : List ℕ) (i : ℕ) → i < job_rows_lem home → first_job_lem home i ≡ false → false ≡ once_jobs (jobs_of home)
-jobs_twice home i h t = elim (bool (once_jobs (jobs_of home))) [ inl o ↦ clash (first_job_lem home i) (new_from alike_jobs turn_jobs (job_at home) i (job_rows_lem home) h (jobs_from _ o)) t | inr n ↦ sym n ]
+pub jobs_each : (home : List ℕ) (n : ℕ) → n ≡ job_rows_lem home → list_all (first_job_lem home) (range_with_len 0 n) ≡ once_jobs (jobs_of home)
+jobs_each home n q =
+    each_once alike_jobs turn_jobs (job_at home) (λ i. once_slot alike_jobs (eqb (at (job_row_lem home i) 0) 0) (job_from_lem (job_row_lem home i))) n (once_jobs (span (job_at home) 0 n)) (jobs_from _) (jobs_to _) ∙
+    ap (λ (k : ℕ). once_jobs (span (job_at home) 0 k)) q
 
 -- MACHINES
 
@@ -130,18 +141,10 @@ pub machine_hole : (home row : List ℕ) (i : ℕ) → row ≡ machine_row_lem h
 machine_hole home row i q z = new_hole alike_machines turn_machines (machine_at home []) i (ap (λ (r : List ℕ). machine_slot r (at [] i)) (sym q) ∙ slot_hole (at row 0) (machine_from row (at [] i)) z)
 
 module _ (home row : List ℕ) (i : ℕ) (h : i < machine_rows_lem home) (q : row ≡ machine_row_lem home i) (ne : at row 0 ≡ 0 → ⊥) where
-  pub machine_found : (o : Option ℕ) → FoundAt (is_machine (at row 1 % 65536)) (machine_at home []) (machine_rows_lem home) o → found_in_lem i o ≡ first_machine_lem home i
+  pub machine_found : (o : Option ℕ) → FoundAt (is_machine (at row 1 % 65536)) (machine_at home []) (machine_rows_lem home) o → option_eq eqb o (Some i) ≡ first_machine_lem home i
   machine_found o w = new_found alike_machines turn_machines (machine_at home []) i (machine_rows_lem home) (machine_from row (at [] i)) h (machine_in home row i q ne) (eq-eqb _ _ refl) o w
 
-pub machines_none : (home : List ℕ) → once_machines (span (machine_at home []) 0 0) ≡ true
-unfolding once_machines
-machines_none home = ap once_machines (span_none (machine_at home []) 0)
-
-pub machines_more : (home : List ℕ) (i : ℕ) → once_machines (span (machine_at home []) 0 i) ≡ true → first_machine_lem home i ≡ true → once_machines (span (machine_at home []) 0 (i + 1)) ≡ true
-machines_more home i o t = machines_to _ (new_more alike_machines turn_machines (machine_at home []) i (machines_from _ o) (once_slot alike_machines (eqb (at (machine_row_lem home i) 0) 0) (machine_from (machine_row_lem home i) (at [] i))) t)
-
-pub machines_all : (home : List ℕ) (i : ℕ) → i ≡ machine_rows_lem home → once_machines (span (machine_at home []) 0 i) ≡ true → true ≡ once_machines (machines_of home [])
-machines_all home i q o = sym o ∙ ap (λ (n : ℕ). once_machines (span (machine_at home []) 0 n)) q
-
-pub machines_twice : (home : List ℕ) (i : ℕ) → i < machine_rows_lem home → first_machine_lem home i ≡ false → false ≡ once_machines (machines_of home [])
-machines_twice home i h t = elim (bool (once_machines (machines_of home []))) [ inl o ↦ clash (first_machine_lem home i) (new_from alike_machines turn_machines (machine_at home []) i (machine_rows_lem home) h (machines_from _ o)) t | inr n ↦ sym n ]
+pub machines_each : (home : List ℕ) (n : ℕ) → n ≡ machine_rows_lem home → list_all (first_machine_lem home) (range_with_len 0 n) ≡ once_machines (machines_of home [])
+machines_each home n q =
+    each_once alike_machines turn_machines (machine_at home []) (λ i. once_slot alike_machines (eqb (at (machine_row_lem home i) 0) 0) (machine_from (machine_row_lem home i) (at [] i))) n (once_machines (span (machine_at home []) 0 n)) (machines_from _) (machines_to _) ∙
+    ap (λ (k : ℕ). once_machines (span (machine_at home []) 0 k)) q

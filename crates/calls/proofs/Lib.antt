@@ -13,7 +13,7 @@ pub mod Keeping
 pub mod TagBytes
 pub mod Naming
 pub mod Ranges
-pub mod KindTags
+pub mod Alike
 pub mod Sets
 pub mod Different
 pub mod Rises

@@ -1,16 +1,19 @@
 -- Setting a job, case by case.
 -- Assumes nothing.
-use Rattle.std.proofs.Common.{◌≡◌, ℕ, ◌+◌, ◌<◌, ◌≤◌, Bool, true, false, cond, eqb, ltb, List, [], ◌∷◌, ◌++◌, map, length, Some, None, Option, sym, ap, ◌∙◌, arith}
-use Rattle.std.proofs.lemmas.Bool.{le-leb, lt-leb, lt-ltb, le-ltb, ltb-true, ltb-false}
+use Rattle.std.proofs.Common.{◌≡◌, ℕ, ◌+◌, ◌<◌, ◌≤◌, Bool, true, false, cond, eqb, ltb, List, [], ◌∷◌, ◌++◌, map, length, is_ok, Ok, Err, Result, sym, refl, ap, ◌∙◌, arith}
+use Rattle.std.proofs.lemmas.Bool.{le-leb, lt-leb, lt-ltb, le-ltb, ltb-true, ltb-false, true≢false}
 use Rattle.model.specs.Lists.{find, change}
 use Rattle.model.specs.State as s
 use Rattle.model.specs.State.{is_job, with_jobs}
-use Rattle.model.specs.Calls.{Out, SetJob, acts, all_most, job_ok, new_job, no, others, reset_job_lem, same_spec_lem, sets_job, yes'}
+use Rattle.model.specs.Calls.{Call, Out, SetJob, acts, all_most, job_ok, new_job, no, others, reset_job_lem, same_spec_lem, sets_job, yes'}
 use Rattle.jobs.specs.Rows.{at, span}
 use Rattle.jobs.specs.Tables.{job_from_lem, job_row_lem, job_rows_lem, jobs_of, jobs_with, job_at, state_of, JobsNow}
 use Rattle.calls.specs.declared.answer.Refusal.{Refusal}
+use Rattle.calls.specs.Acted.{Acted}
+use Rattle.calls.specs.Answers.{answer_to_done}
 use Rattle.calls.specs.Setting.{Begins, DoneAs, sets_as}
 use Rattle.calls.specs.Versions.{none_left_lem}
+use Rattle.calls.proofs.Outcomes.{acted_kept}
 use Rattle.calls.proofs.Changes.{change_found}
 
 -- a list of jobs with which a pass begins
@@ -18,9 +21,19 @@ pub begins : (f : s.State → Out) (js : List s.Job) (home home' : List ℕ) →
 begins f js home home' n e = record { acts = λ live time. e live time ∙ ap yes' (sym (n.state live time)); only = (js, n.state); long = n.long }
 
 -- what f does, g does
-pub done_as : (f g : s.State → Out) (home home' : List ℕ) (o : Option Refusal) → ((live : List ℕ) (time : ℕ) → g (state_of home live time) ≡ f (state_of home live time)) → DoneAs f home home' o → DoneAs g home home' o
-done_as f g home home' None e d = record { acts = λ live time. e live time ∙ d.acts live time; only = d.only; long = d.long }
-done_as f g home home' (Some k) e d = record { acts = λ live time. e live time ∙ d.acts live time; same = d.same }
+pub done_as : (f g : s.State → Out) (home home' : List ℕ) (o : Result (Unit {0}) Refusal) → ((live : List ℕ) (time : ℕ) → g (state_of home live time) ≡ f (state_of home live time)) → DoneAs f home home' o → DoneAs g home home' o
+done_as f g home home' (Ok u) e d = record { acts = λ live time. e live time ∙ d.acts live time; only = d.only; long = d.long }
+done_as f g home home' (Err k) e d = record { acts = λ live time. e live time ∙ d.acts live time; same = d.same }
+
+-- what was done
+pub begun : (f : s.State → Out) (home home' : List ℕ) (r : Result (Unit {0}) Refusal) → DoneAs f home home' r → is_ok r ≡ true → Begins f home home'
+begun f home home' (Ok u) d t = d
+begun f home home' (Err e) d t = absurd (true≢false (sym t))
+
+-- what was refused
+pub refused : (c : Call) (home live home' : List ℕ) (time : ℕ) (r : Result (Unit {0}) Refusal) → DoneAs (acts c) home home' r → is_ok r ≡ false → Acted c home live time (answer_to_done r) home' live time
+refused c home live home' time (Ok u) d t = absurd (true≢false t)
+refused c home live home' time (Err e) d t = acted_kept c home live home' live time e d.same refl (d.acts live time)
 
 -- ONE MORE
 

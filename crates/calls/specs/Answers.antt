@@ -1,6 +1,6 @@
 -- What the answers of the code stand for: the number and values that the bytes have.
 -- Assumes nothing.
-use Rattle.std.specs.Prelude.{ℕ}
+use Rattle.std.specs.Prelude.{ℕ, Ok, Err, Result}
 use Rattle.model.specs.Lists.{keep}
 use Rattle.model.specs.State.{State, of_job, on_machine}
 use Rattle.model.specs.Calls.{orders, lines_of}
@@ -18,6 +18,11 @@ number_of Stale = 5
 number_of Full = 8
 number_of NoTime = 10
 number_of NotBuilt = 12
+
+-- to what was done or refused
+abbrev pub answer_to_done : {T : Type 0} → Result T Refusal → Answer
+answer_to_done (Ok x) = Yes
+answer_to_done (Err r) = TurnedAway r
 
 -- in the state afterwards, whose tasks it lists
 abbrev pub answer_of : Answer → State → w.Answer

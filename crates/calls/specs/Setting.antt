@@ -1,6 +1,6 @@
 -- What setting a job does to the rows, up to the pass.
 -- Assumes nothing.
-use Rattle.std.specs.Prelude.{◌≡◌, ℕ, List, length, Some, None, Option}
+use Rattle.std.specs.Prelude.{◌≡◌, ℕ, List, length, Ok, Err, Result}
 use Rattle.model.specs.State as s
 use Rattle.model.specs.State.{with_jobs}
 use Rattle.model.specs.Calls.{Call, Out, SetJob, no, sets_job, yes'}
@@ -21,9 +21,9 @@ pub record Refuses (f : s.State → Out) (k : ℕ) (home home' : List ℕ) : Typ
   pub acts : (live : List ℕ) (time : ℕ) → f (state_of home live time) ≡ no k (state_of home live time)
   pub same : home' ≡ home
 
-abbrev pub DoneAs : (s.State → Out) → (home home' : List ℕ) → Option Refusal → Type 0
-DoneAs f home home' None = Begins f home home'
-DoneAs f home home' (Some k) = Refuses f (number_of k) home home'
+abbrev pub DoneAs : (s.State → Out) → (home home' : List ℕ) → Result (Unit {0}) Refusal → Type 0
+DoneAs f home home' (Ok u) = Begins f home home'
+DoneAs f home home' (Err e) = Refuses f (number_of e) home home'
 
 -- setting a job, beside those of its name that are there
 abbrev pub sets_as : s.Job → List s.Job → s.State → Out

@@ -1,6 +1,6 @@
 -- What all home words have that came to be by calls. Words without it are damaged; words with it may still be others than were kept.
 -- Assumes nothing.
-use Rattle.std.specs.Prelude.{ℕ, ◌+◌, Bool, false, not, ◌&&◌, List, [], Some, None, Option, ◌==◌, nat_lt}
+use Rattle.std.specs.Prelude.{ℕ, ◌+◌, Bool, not, ◌&&◌, List, [], nat_lt}
 use Rattle.model.specs.Lists.{some, every}
 use Rattle.model.specs.State.{Machine, Job, Task, is_job, is_machine}
 use Rattle.model.specs.Promise.{once_jobs, once_machines, rising_tasks}
@@ -21,8 +21,3 @@ first_job_lem home i = every (λ (j : Job). not (some (is_job j.name) (span (job
 
 abbrev pub first_machine_lem : List ℕ → ℕ → Bool
 first_machine_lem home i = every (λ (m : Machine). not (some (is_machine m.num) (span (machine_at home []) 0 i))) (machine_at home [] i)
-
--- it was found in row i
-abbrev pub found_in_lem : ℕ → Option ℕ → Bool
-found_in_lem i None = false
-found_in_lem i (Some k) = k == i

@@ -52,13 +52,11 @@ impl Mind {
     pub fn tell<'a>(&mut self, ms: u64) -> Answer<'a>
         ensures { Acted (Tick ms) self.old.home self.old.live self.old.time result self.new.home self.new.live self.new.time }
     {
-        match clock::tell(&mut self.home, &mut self.live, self.time, ms) {
-            Some(time) => {
-                self.time = time;
-                Answer::Yes
-            }
-            None => Answer::TurnedAway(Refusal::Malformed),
+        let told = clock::tell(&mut self.home, &mut self.live, self.time, ms);
+        if let Ok(time) = told {
+            self.time = time;
         }
+        Answer::from(told)
     }
 
     // Showing a job's tasks changes nothing.

@@ -57,9 +57,7 @@ fn put(home: &mut [u64], live: &mut [u64], added: Added) -> Result<(), Refusal>
     if too_much(added) {
         return Err(Refusal::Malformed);
     }
-    if !add_machine(home, live, machine(added)) {
-        return Err(Refusal::Full);
-    }
+    add_machine(home, live, machine(added))?;
     Ok(())
 }
 
@@ -71,11 +69,9 @@ pub fn add<'a>(home: &mut [u64], live: &mut [u64], time: u64, added: Added) -> A
     ensures acted { Acted (call_of (Add added.entry)) home.old live.old time result home.new live.new time }
     ensures long { (length home.new ≡ length home.old) × (length live.new ≡ length live.old) }
 {
-    match put(home, live, added) {
-        Err(why) => Answer::TurnedAway(why),
-        Ok(_) => {
-            settle(home, live, time);
-            Answer::Yes
-        }
+    let done = put(home, live, added);
+    if done.is_ok() {
+        settle(home, live, time);
     }
+    Answer::from(done)
 }

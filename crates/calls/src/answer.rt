@@ -1,7 +1,9 @@
 // What the herd says to a call. What an answer lists stands in the rows, and is written from there.
 ghost use Rattle.std.specs.Prelude.{◌≡◌};
-ghost use Rattle.calls.specs.Answers.{number_of};
+ghost use Rattle.calls.specs.Answers.{answer_to_done, number_of};
+ghost use Rattle.calls.specs.declared.answer.Refusal.TheVariants.{Full};
 
+use jobs::full;
 use jobs::ids::{Life, MachineId, ReportNumber};
 
 // Why a call is turned away.
@@ -32,6 +34,14 @@ impl Refusal {
     }
 }
 
+impl From<full::Full> for Refusal {
+    ghost from_gives = { λ _ e. e ≡ Full };
+
+    fn from(_full: full::Full) -> Refusal {
+        Refusal::Full
+    }
+}
+
 #[derive(Clone, Copy)]
 pub struct RunOn {
     pub machine: MachineId,
@@ -47,4 +57,16 @@ pub enum Answer<'a> {
     Run(RunOn),
     // To showing: the tasks of the job of that name.
     Lines(&'a [u8]),
+}
+
+// Yes where it was done, and else why not.
+impl<'a, T: Copy> From<Result<T, Refusal>> for Answer<'a> {
+    ghost from_gives = { λ done a. a ≡ answer_to_done done };
+
+    fn from(done: Result<T, Refusal>) -> Answer<'a> {
+        match done {
+            Ok(_) => Answer::Yes,
+            Err(why) => Answer::TurnedAway(why),
+        }
+    }
 }

@@ -8,16 +8,16 @@ ghost use Rattle.jobs.specs.Layout.{home_words_lem, live_words};
 ghost use Rattle.jobs.specs.Tables.{state_of};
 ghost use Rattle.calls.specs.Times.{Told};
 
+use crate::answer::Refusal;
 use crate::sweeps::doubt;
+use jobs::ids::LAST;
 use settling::pass::settle;
-
-const LAST: u64 = 4_611_686_018_427_387_904;
 
 // The later of two times.
 fn later_of(ms: u64, time: u64) -> u64
     ensures { result ≡ later ms time }
 {
-    if time < ms { ms } else { time }
+    ms.max(time)
 }
 
 // The time goes on, and a pass follows.
@@ -32,8 +32,8 @@ fn go_on(home: &mut [u64], live: &mut [u64], time: u64)
     settle(home, live, time);
 }
 
-// The time that it is then; none where it is refused.
-pub fn tell(home: &mut [u64], live: &mut [u64], time: u64, ms: u64) -> Option<u64>
+// The time that it is then.
+pub fn tell(home: &mut [u64], live: &mut [u64], time: u64, ms: u64) -> Result<u64, Refusal>
     requires words { home_words_lem ≤ length home.old }
     requires flags { live_words ≤ length live.old }
     requires fine { Fine (state_of home.old live.old time) }
@@ -41,9 +41,9 @@ pub fn tell(home: &mut [u64], live: &mut [u64], time: u64, ms: u64) -> Option<u6
     ensures long { (length home.new ≡ length home.old) × (length live.new ≡ length live.old) }
 {
     if ms == 0 || ms > LAST {
-        return None;
+        return Err(Refusal::Malformed);
     }
     let then = later_of(ms, time);
     go_on(home, live, then);
-    Some(then)
+    Ok(then)
 }

@@ -14,11 +14,10 @@ use crate::answer::{Answer, Refusal, RunOn};
 use crate::call::Reported;
 use crate::sweeps::hear;
 use jobs::finding::find_machine;
+use jobs::ids::LAST;
 use jobs::machine_rows;
 use jobs::rows::machine_row;
 use settling::pass::settle;
-
-const LAST: u64 = 4_611_686_018_427_387_904;
 
 // Is a number of the report above 2^62, or are there more than 2,048 tasks.
 fn out_of_range(report: Reported) -> bool
@@ -42,9 +41,7 @@ fn check(home: &[u64], report: Reported) -> Result<usize, Refusal>
     if out_of_range(report) {
         return Err(Refusal::Malformed);
     }
-    let Some(i) = find_machine(home, report.machine) else {
-        return Err(Refusal::Unknown);
-    };
+    let i = find_machine(home, report.machine).ok_or(Refusal::Unknown)?;
     let row = machine_row(home, i);
     if stale(report, row[5], row[6]) {
         return Err(Refusal::Stale);

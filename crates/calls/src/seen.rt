@@ -11,9 +11,9 @@ use octets::field::number_at;
 pub fn seen(tasks: &[u8], id: TaskId) -> Option<bool>
     ensures { SeenAs (seen_as id.0 (seens_of tasks.now)) result }
 {
-    for i in 0..tasks.len() / 9 {
-        if number_at::<u64>(tasks, 9 * i) == id.0 {
-            return Some(tasks[9 * i + 8] == 1);
+    for task in tasks.chunks_exact(9) {
+        if TaskId(number_at(task, 0)) == id {
+            return Some(task[8] == 1);
         }
     }
     None

@@ -25,43 +25,34 @@ use jobs::sums::sum_of_mosts;
 use settling::pass::settle;
 
 // A job of another name than all others.
-fn set_new(home: &mut [u64], job: Job) -> Option<Refusal>
+fn set_new(home: &mut [u64], job: Job) -> Result<(), Refusal>
     requires words { home_words_lem ≤ length home.old }
     requires version { job.version.0 ≡ 1 }
     ensures { DoneAs (sets_as (job_of job) []) home.old home.new result }
 {
-    if add_job(home, job) {
-        None
-    } else {
-        Some(Refusal::Full)
-    }
+    add_job(home, job)?;
+    Ok(())
 }
 
 // The job in row `i`, the first of that name, set anew.
-fn reset_job(home: &mut [u64], i: usize, job: Job) -> Option<Refusal>
+fn reset_job(home: &mut [u64], i: usize, job: Job) -> Result<(), Refusal>
     requires words { home_words_lem ≤ length home.old }
     requires within { i < job_rows_lem home.old }
     ensures { (x : s.Job) → job_at home.old i ≡ x ∷ [] → is_job (job_of job).name x ≡ true → find (is_job (job_of job).name) (span (job_at home.old) 0 i) ≡ [] → DoneAs (sets_as (job_of job) (x ∷ [])) home.old home.new result }
 {
-    match next_version(&job_row(home, i)[0..23], &job.spec) {
-        None => Some(Refusal::Full),
-        Some(version) => {
-            put_job(home, i, Job { version, ..job });
-            None
-        }
-    }
+    let version = next_version(&job_row(home, i)[0..23], &job.spec).ok_or(Refusal::Full)?;
+    put_job(home, i, Job { version, ..job });
+    Ok(())
 }
 
 // Sets a job: one more, or one that is there.
-fn set_job(home: &mut [u64], wanted: Wanted) -> Option<Refusal>
+fn set_job(home: &mut [u64], wanted: Wanted) -> Result<(), Refusal>
     requires { home_words_lem ≤ length home.old }
     ensures { DoneAs (acts (set_call wanted.entry)) home.old home.new result }
 {
-    let Some(job) = job_of(wanted) else {
-        return Some(Refusal::Malformed);
-    };
+    let job = job_of(wanted).ok_or(Refusal::Malformed)?;
     if u64::from(job.most) + u64::from(sum_of_mosts(home, &job.name)) > MAX_TASKS as u64 {
-        return Some(Refusal::Full);
+        return Err(Refusal::Full);
     }
     match find_job(home, &job.name) {
         None => set_new(home, job),
@@ -77,11 +68,9 @@ pub fn set<'a>(home: &mut [u64], live: &mut [u64], time: u64, wanted: Wanted) ->
     ensures acted { Acted (set_call wanted.entry) home.old live.old time result home.new live.new time }
     ensures long { (length home.new ≡ length home.old) × (length live.new ≡ length live.old) }
 {
-    match set_job(home, wanted) {
-        Some(why) => Answer::TurnedAway(why),
-        None => {
-            settle(home, live, time);
-            Answer::Yes
-        }
+    let done = set_job(home, wanted);
+    if done.is_ok() {
+        settle(home, live, time);
     }
+    Answer::from(done)
 }

@@ -5,23 +5,14 @@ ghost use Rattle.model.specs.Promise.{once_jobs, once_machines};
 ghost use Rattle.jobs.specs.Layout.{home_words_lem};
 ghost use Rattle.jobs.specs.Rows.{at};
 ghost use Rattle.jobs.specs.Tables.{job_rows_lem, jobs_of, machine_rows_lem, machines_of, tasks_of};
-ghost use Rattle.calls.specs.Sound.{first_job_lem, first_machine_lem, found_in_lem, sound_tasks_lem, sound_words};
+ghost use Rattle.calls.specs.Sound.{first_job_lem, first_machine_lem, sound_tasks_lem, sound_words};
 
 use jobs::finding::{find_job, find_machine};
-use jobs::ids::MachineId;
 use jobs::layout::LAST_ID;
 use jobs::naming::name_from;
-use jobs::rows::{job_row, job_rows, machine_row, machine_rows, task_row, task_rows};
-
-// Was it found in row `i`.
-fn found_in(found: Option<usize>, i: usize) -> bool
-    ensures { result ≡ found_in_lem i found }
-{
-    match found {
-        Some(k) => k == i,
-        None => false,
-    }
-}
+use jobs::rows::{
+    job_row, job_rows, machine_number, machine_row, machine_rows, task_row, task_rows,
+};
 
 // Is the job in row `i`, if there is one, the first of its name.
 fn first_job(home: &[u64], i: usize) -> bool
@@ -33,7 +24,7 @@ fn first_job(home: &[u64], i: usize) -> bool
     if row[0] == 0 {
         return true;
     }
-    found_in(find_job(home, &name_from(&row[0..23])), i)
+    find_job(home, &name_from(&row[0..23])) == Some(i)
 }
 
 // Is the machine in row `i`, if there is one, the first of its number.
@@ -46,7 +37,7 @@ fn first_machine(home: &[u64], i: usize) -> bool
     if row[0] == 0 {
         return true;
     }
-    found_in(find_machine(home, MachineId((row[1] % 65536) as u16)), i)
+    find_machine(home, machine_number(row[1])) == Some(i)
 }
 
 // Have all jobs different names.
@@ -54,12 +45,7 @@ fn sound_jobs(home: &[u64]) -> bool
     requires { home_words_lem ≤ length home.now }
     ensures { result ≡ once_jobs (jobs_of home.now) }
 {
-    for i in 0..job_rows(home) {
-        if !first_job(home, i) {
-            return false;
-        }
-    }
-    true
+    (0..job_rows(home)).all(|i| first_job(home, i))
 }
 
 // Have all machines different numbers.
@@ -67,12 +53,7 @@ fn sound_machines(home: &[u64]) -> bool
     requires { home_words_lem ≤ length home.now }
     ensures { result ≡ once_machines (machines_of home.now []) }
 {
-    for i in 0..machine_rows(home) {
-        if !first_machine(home, i) {
-            return false;
-        }
-    }
-    true
+    (0..machine_rows(home)).all(|i| first_machine(home, i))
 }
 
 // Do the tasks' numbers rise, and are they all given.

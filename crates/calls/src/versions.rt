@@ -7,23 +7,14 @@ ghost use Rattle.jobs.specs.Values.{spec_of};
 ghost use Rattle.calls.specs.Versions.{NextAs};
 
 use jobs::ids::Version;
-use jobs::kinds::{low_half, version_from};
+use jobs::kinds::{spec_from, version_from};
 use jobs::spec::Spec;
 
-// Are these the tags in a kind, in the same order.
-fn same_tags(kind: &[u64], spec: &Spec) -> bool
-    requires { length kind.now ≡ 23 }
-    ensures { result ≡ same (take spec.now.count spec.now.tags) (spec_from_lem kind.now).tags }
+// The tags that count.
+fn tags(spec: &Spec) -> &[u32]
+    ensures { result.now ≡ (spec_of spec.now).tags }
 {
-    if spec.count as u64 != kind[5].min(8) {
-        return false;
-    }
-    for a in 0..spec.count as usize {
-        if spec.tags[a] != low_half(kind[6 + a]) {
-            return false;
-        }
-    }
-    true
+    &spec.tags[..usize::from(spec.count)]
 }
 
 // Is that the spec in a kind.
@@ -31,14 +22,9 @@ pub fn same_spec(kind: &[u64], spec: &Spec) -> bool
     requires { length kind.now ≡ 23 }
     ensures { result ≡ same_spec_lem (spec_of spec.now) (spec_from_lem kind.now) }
 {
-    let image = low_half(kind[1]);
-    let cpu = low_half(kind[2]);
-    let mem = low_half(kind[3]);
-    let apart = kind[4] != 0;
-    if spec.image != image || spec.cpu != cpu || spec.mem != mem || spec.apart != apart {
-        return false;
-    }
-    same_tags(kind, spec)
+    let there = spec_from(kind);
+    (spec.image, spec.cpu, spec.mem, tags(spec), spec.apart)
+        == (there.image, there.cpu, there.mem, tags(&there), there.apart)
 }
 
 // The version of the job of that kind once its spec is this one, if there is one left.
@@ -50,8 +36,6 @@ pub fn next_version(kind: &[u64], spec: &Spec) -> Option<Version>
     if same_spec(kind, spec) {
         return Some(version);
     }
-    if version.0 == u32::MAX {
-        return None;
-    }
-    Some(Version(version.0 + 1))
+    let next = version.0.checked_add(1)?;
+    Some(Version(next))
 }

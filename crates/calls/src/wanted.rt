@@ -40,12 +40,8 @@ pub fn spec_of(like: Likeness) -> Option<Spec>
 pub fn job_of(wanted: Wanted) -> Option<Job>
     ensures { JobAs wanted.entry result }
 {
-    let Some(name) = name_of(wanted.name) else {
-        return None;
-    };
-    let Some(spec) = spec_of(wanted.like) else {
-        return None;
-    };
+    let name = name_of(wanted.name)?;
+    let spec = spec_of(wanted.like)?;
     if wanted.least > wanted.count || wanted.count > wanted.most || wanted.most > 256 {
         return None;
     }

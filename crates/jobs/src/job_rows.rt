@@ -1,11 +1,12 @@
 // Jobs in their rows: change, go, come, and are counted.
-ghost use Rattle.std.specs.Prelude.{◌≡◌, ℕ, ◌+◌, ◌*◌, ◌<◌, ◌≤◌, true, false, cond, List, [], ◌∷◌, ◌++◌, length, nat_lt};
+ghost use Rattle.std.specs.Prelude.{◌≡◌, ℕ, ◌+◌, ◌*◌, ◌<◌, ◌≤◌, cond, List, [], ◌∷◌, ◌++◌, length, is_ok, nat_lt, OnErr, OnOk};
 ghost use Rattle.jobs.specs.Layout.{home_words_lem};
 ghost use Rattle.jobs.specs.Rows.{at};
 ghost use Rattle.jobs.specs.Tables.{job_rows_lem, jobs_of, jobs_with, JobsNow};
 ghost use Rattle.jobs.specs.Values.{job_of};
 
 use crate::encoding::encode_job;
+use crate::full::Full;
 use crate::job::Job;
 use crate::layout::*;
 use crate::rows::JOBS;
@@ -67,16 +68,16 @@ fn push_job(home: &mut [u64], job: Job)
 }
 
 // One more job, behind the others; refused where there are 256.
-pub fn add_job(home: &mut [u64], job: Job) -> bool
+pub fn add_job(home: &mut [u64], job: Job) -> Result<(), Full>
     requires words { home_words_lem ≤ length home.old }
-    ensures answer { result ≡ nat_lt (length (jobs_of home.old)) 256 }
-    ensures refused { result ≡ false → home.new ≡ home.old }
-    ensures added { result ≡ true → JobsNow (jobs_of home.old ++ job_of job ∷ []) home.old home.new }
+    ensures answer { is_ok result ≡ nat_lt (length (jobs_of home.old)) 256 }
+    ensures refused { OnErr result (home.new ≡ home.old) }
+    ensures added { OnOk result (JobsNow (jobs_of home.old ++ job_of job ∷ []) home.old home.new) }
 {
     if count_jobs(home) >= MAX_JOBS {
-        return false;
+        return Err(Full);
     }
     make_job_room(home);
     push_job(home, job);
-    true
+    Ok(())
 }

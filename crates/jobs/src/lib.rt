@@ -7,6 +7,7 @@ pub mod closing;
 pub mod dark;
 pub mod encoding;
 pub mod finding;
+pub mod full;
 pub mod ids;
 pub mod job;
 pub mod job_rows;

@@ -1,11 +1,12 @@
 // Machines in their rows: are opened, closed and heard, go, come, and are counted.
-ghost use Rattle.std.specs.Prelude.{◌≡◌, ℕ, ◌+◌, ◌*◌, ◌<◌, ◌≤◌, true, false, cond, List, [], ◌∷◌, ◌++◌, map, length, take, nat_lt};
+ghost use Rattle.std.specs.Prelude.{◌≡◌, ℕ, ◌+◌, ◌*◌, ◌<◌, ◌≤◌, cond, List, [], ◌∷◌, ◌++◌, map, length, take, is_ok, nat_lt, OnErr, OnOk};
 ghost use Rattle.model.specs.Calls.{opened, heard_from, new_machine};
 ghost use Rattle.jobs.specs.Layout.{home_words_lem, live_words};
 ghost use Rattle.jobs.specs.Rows.{at};
 ghost use Rattle.jobs.specs.Tables.{machine_at, machine_rows_lem, machines_of, machines_with, MachinesNow};
 
 use crate::encoding::encode_machine;
+use crate::full::Full;
 use crate::ids::{Life, ReportNumber};
 use crate::layout::*;
 use crate::machine::Machine;
@@ -90,17 +91,17 @@ fn push_machine(home: &mut [u64], live: &mut [u64], m: Machine)
 }
 
 // One more machine, behind the others; refused where there are 256.
-pub fn add_machine(home: &mut [u64], live: &mut [u64], m: Machine) -> bool
+pub fn add_machine(home: &mut [u64], live: &mut [u64], m: Machine) -> Result<(), Full>
     requires words { home_words_lem ≤ length home.old }
     requires flags { live_words ≤ length live.old }
-    ensures answer { result ≡ nat_lt (length (machines_of home.old live.old)) 256 }
-    ensures refused { result ≡ false → (home.new ≡ home.old) × (live.new ≡ live.old) }
-    ensures added { result ≡ true → MachinesNow (machines_of home.old live.old ++ new_machine m.num.0 m.cpu m.mem (take m.count m.tags) ∷ []) home.old live.old home.new live.new }
+    ensures answer { is_ok result ≡ nat_lt (length (machines_of home.old live.old)) 256 }
+    ensures refused { OnErr result ((home.new ≡ home.old) × (live.new ≡ live.old)) }
+    ensures added { OnOk result (MachinesNow (machines_of home.old live.old ++ new_machine m.num.0 m.cpu m.mem (take m.count m.tags) ∷ []) home.old live.old home.new live.new) }
 {
     if count_machines(home) >= MAX_MACHINES {
-        return false;
+        return Err(Full);
     }
     make_machine_room(home, live);
     push_machine(home, live, m);
-    true
+    Ok(())
 }

@@ -1,13 +1,13 @@
 -- Scans of rows from the first on: what is found, counted and picked.
 -- Assumes nothing.
-use Rattle.std.proofs.Common.{◌≡◌, ℕ, ◌+◌, ◌-◌, ◌<◌, ◌≤◌, Bool, true, false, cond, ◌||◌, eqb, List, [], ◌∷◌, ◌++◌, length, refl, ap, ◌∙◌, inl, inr, arith}
+use Rattle.std.proofs.Common.{◌≡◌, ℕ, zero, suc, ◌+◌, ◌≤◌, Bool, true, false, cond, ◌||◌, eqb, List, [], ◌∷◌, ◌++◌, length, sym, refl, ap, ◌∙◌, inl, inr, arith}
+use Rattle.std.specs.List.{list_any, range_with_len}
 use Rattle.std.proofs.lemmas.List.{append-nil, length_push}
 use Rattle.std.proofs.lemmas.Bool.{cases_Bool, eq-eqb, ne_eqb}
 use Rattle.model.specs.Lists.{some, keep, last_of}
 use Rattle.model.specs.State as s
 use Rattle.jobs.specs.Rows.{at, span}
 use Rattle.jobs.specs.Tables.{machine_from, machine_slot}
-use Rattle.jobs.proofs.Spans.{span_more, span_at}
 
 or_nil : (b : Bool) → (b || false) ≡ b
 or_nil true = refl
@@ -16,10 +16,6 @@ or_nil false = refl
 or_assoc : (a b c : Bool) → (a || (b || c)) ≡ ((a || b) || c)
 or_assoc true b c = refl
 or_assoc false b c = refl
-
-or_true : (b : Bool) → (b || true) ≡ true
-or_true true = refl
-or_true false = refl
 
 module _ {X : Type 0} where
   pub hole : (b : Bool) (x : X) → b ≡ true → cond b [] (x ∷ []) ≡ []
@@ -75,15 +71,6 @@ module _ {X : Type 0} where
   last_push (x ∷ []) y = refl
   last_push (x ∷ z ∷ zs) y = last_push (z ∷ zs) y
 
-  -- rows that are passed, one by one
-  module _ (p : X → Bool) (f : ℕ → List X) (i : ℕ) where
-    pub some_next : some p (span f 0 i) ≡ false → some p (f i) ≡ false → some p (span f 0 (i + 1)) ≡ false
-    some_next a b = ap (some p) (span_more f i) ∙ some_append p (span f 0 i) (f i) ∙ rw (a, b)
-
-    pub some_found : (n : ℕ) → i < n → some p (f i) ≡ true → some p (span f 0 n) ≡ true
-    some_found n h e =
-        ap (some p) (span_at f i n h) ∙ some_append p (span f 0 i) (f i ++ span f (i + 1) (n - (i + 1))) ∙ ap (λ (b : Bool). some p (span f 0 i) || b) (some_append p (f i) (span f (i + 1) (n - (i + 1))) ∙ ap (λ (b : Bool). b || some p (span f (i + 1) (n - (i + 1)))) e) ∙ or_true (some p (span f 0 i))
-
 -- A MACHINE'S ROW
 
 module _ (p : s.Machine → Bool) (r : List ℕ) (heard : ℕ) where
@@ -92,3 +79,11 @@ module _ (p : s.Machine → Bool) (r : List ℕ) (heard : ℕ) where
 
   pub machine_full : (at r 0 ≡ 0 → ⊥) → some p (machine_slot r heard) ≡ p (machine_from r heard)
   machine_full e = ap (some p) (full (eqb (at r 0) 0) (machine_from r heard) (ne_eqb (at r 0) 0 e)) ∙ some_one p (machine_from r heard)
+
+-- ALL ROWS
+
+-- one by one, or as one list
+pub some_each : {X : Type 0} (p : X → Bool) (f : ℕ → List X) (a n : ℕ) → list_any (λ i. some p (f i)) (range_with_len a n) ≡ some p (span f a n)
+unfolding span some
+some_each p f a zero = refl
+some_each p f a (suc n) = let e : a + 1 ≡ suc a = omega arith in rw e (ap (λ (b : Bool). some p (f a) || b) (some_each p f (suc a) n) ∙ sym (some_append p (f a) (span f (suc a) n)))

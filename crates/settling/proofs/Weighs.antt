@@ -120,9 +120,3 @@ adding_more home w ls ms q v d l z a is r e h = (
   where
     below : (r : ℕ) → r < q + 1 → (r ≡ q → ⊥) → r < q
     below r b n = omega arith
-
-pub clearing_more : (ms : List Load) (q : ℕ) → q < length ms → ((r : ℕ) (e : Load) → r < q → get_or ms r e ≡ no_load) → (r : ℕ) (e : Load) → r < q + 1 → get_or (set ms q no_load) r e ≡ no_load
-clearing_more ms q l a r e b = elim (cases_eq r q) [ inl s' ↦ rw s' (get_or-set_same ms q no_load e l) | inr n ↦ get_or-set_other ms q r no_load e n ∙ a r e (below r b n) ]
-  where
-    below : (r : ℕ) → r < q + 1 → (r ≡ q → ⊥) → r < q
-    below r b n = omega arith

@@ -19,12 +19,8 @@ fn has_tag(row: &[u64], tag: u32) -> bool
     requires { length row.now ≡ 24 }
     ensures { result ≡ some (nat_eq tag) (take (min (at row.now 7) 16) (map low (drop 8 row.now))) }
 {
-    for a in 0..row[7].min(16) as usize {
-        if tag == low_half(row[8 + a]) {
-            return true;
-        }
-    }
-    false
+    let count = row[7].min(16) as usize;
+    row[8..8 + count].iter().any(|word| tag == low_half(*word))
 }
 
 // Is the machine in a row open, present, free of the job where its tasks are to be apart, and with room.
@@ -79,8 +75,8 @@ pub fn choose(
         if !fits_on(row, live[r], spec, load, time) {
             continue;
         }
-        for a in 0..spec.count as usize {
-            if !has_tag(row, spec.tags[a]) {
+        for tag in &spec.tags[..usize::from(spec.count)] {
+            if !has_tag(row, *tag) {
                 continue 'machines;
             }
         }

@@ -2,7 +2,7 @@
 use jobs::ids::MachineId;
 
 // Cpu and memory of all that is on it, and whether a task of the job in question is.
-#[derive(Clone, Copy)]
+#[derive(Clone, Copy, Default)]
 pub struct Load {
     pub cpu: u64,
     pub mem: u64,

@@ -9,10 +9,9 @@ ghost use Rattle.settling.specs.Place.{Loaded, weight_of, heavier, no_load, num_
 use crate::load::{Load, Weight};
 use jobs::ids::MachineId;
 use jobs::kinds::low_half;
-use jobs::layout::MAX_MACHINES;
 use jobs::name::Name;
 use jobs::naming::is_named;
-use jobs::rows::{machine_row, machine_rows, task_kind, task_row, task_rows};
+use jobs::rows::{machine_number, machine_row, machine_rows, task_kind, task_row, task_rows};
 
 // What the task in row `i` adds to its machine.
 fn weight(home: &[u64], i: usize, job: &Name) -> Option<Weight>
@@ -21,15 +20,12 @@ fn weight(home: &[u64], i: usize, job: &Name) -> Option<Weight>
     ensures { (live : List ℕ) → result ≡ weight_of (name_of job.now) (task_at home.now live i) }
 {
     let row = task_row(home, i);
-    if row[0] == 0 {
-        return None;
-    }
-    if row[1] == 0 {
+    if row[0] == 0 || row[1] == 0 {
         return None;
     }
     let kind = task_kind(row);
     Some(Weight {
-        machine: MachineId((row[2] % 65536) as u16),
+        machine: machine_number(row[2]),
         cpu: low_half(kind[2]),
         mem: low_half(kind[3]),
         mine: is_named(kind, job),
@@ -37,17 +33,17 @@ fn weight(home: &[u64], i: usize, job: &Name) -> Option<Weight>
 }
 
 // The load of a machine with one task more, if that is on it.
-fn add_weight(load: Load, num: u64, w: Weight) -> Load
+fn add_weight(load: Load, num: MachineId, w: Weight) -> Load
     requires cpu { load.cpu < 1000000000000000 }
     requires mem { load.mem < 1000000000000000 }
-    ensures { result ≡ heavier num w load }
+    ensures { result ≡ heavier num.0 w load }
 {
-    if num != w.machine.0 as u64 {
+    if num != w.machine {
         return load;
     }
     Load {
-        cpu: load.cpu + w.cpu as u64,
-        mem: load.mem + w.mem as u64,
+        cpu: load.cpu + u64::from(w.cpu),
+        mem: load.mem + u64::from(w.mem),
         mine: load.mine || w.mine,
     }
 }
@@ -59,22 +55,8 @@ fn add_to_all(home: &[u64], w: Weight, loads: &mut [Load])
     requires few { (r : ℕ) (e : LoadT) → r < machine_rows_lem home.now → ((get_or loads.old r e).cpu < 1000000000000000) × ((get_or loads.old r e).mem < 1000000000000000) }
     ensures { (r : ℕ) (e : LoadT) → r < machine_rows_lem home.now → slice_index_or loads.new r e ≡ heavier (num_at home.now r) w (slice_index_or loads.old r e) }
 {
-    for r in 0..machine_rows(home) {
-        loads[r] = add_weight(loads[r], machine_row(home, r)[1] % 65536, w);
-    }
-}
-
-// Nothing is on any machine.
-fn clear_all(loads: &mut [Load])
-    requires { length loads.old ≡ 256 }
-    ensures { (r : ℕ) (e : LoadT) → r < 256 → slice_index_or loads.new r e ≡ no_load }
-{
-    for r in 0..MAX_MACHINES {
-        loads[r] = Load {
-            cpu: 0,
-            mem: 0,
-            mine: false,
-        };
+    for (r, load) in loads[..machine_rows(home)].iter_mut().enumerate() {
+        *load = add_weight(*load, machine_number(machine_row(home, r)[1]), w);
     }
 }
 
@@ -84,11 +66,10 @@ pub fn weigh_all(home: &[u64], job: &Name, loads: &mut [Load])
     requires size { length loads.old ≡ 256 }
     ensures { (live : List ℕ) → Loaded (name_of job.now) home.now (tasks_of home.now live) loads.new }
 {
-    clear_all(loads);
+    loads.fill(Load::default());
     for i in 0..task_rows(home) {
-        match weight(home, i, job) {
-            Some(w) => add_to_all(home, w, loads),
-            None => {}
+        if let Some(w) = weight(home, i, job) {
+            add_to_all(home, w, loads);
         }
     }
 }

@@ -9,6 +9,7 @@ ghost use Rattle.settling.specs.Scan.{Numbered, Became};
 use crate::load::Load;
 use crate::placing::place_all;
 use crate::sweeping::{end_orphans, step_jobs};
+use jobs::layout::MAX_MACHINES;
 
 // One pass at that time. Only tasks and the last number given change.
 pub fn settle(home: &mut [u64], live: &mut [u64], time: u64)
@@ -21,10 +22,6 @@ pub fn settle(home: &mut [u64], live: &mut [u64], time: u64)
 {
     end_orphans(home);
     step_jobs(home, live, time);
-    let mut loads = [Load {
-        cpu: 0,
-        mem: 0,
-        mine: false,
-    }; 256];
+    let mut loads = [Load::default(); MAX_MACHINES];
     place_all(home, live, &mut loads, time);
 }

@@ -10,11 +10,11 @@ ghost use Rattle.settling.specs.Place.{PlacedRow};
 use crate::choosing::choose;
 use crate::load::Load;
 use crate::loads::weigh_all;
-use jobs::ids::{Life, MachineId};
+use jobs::ids::Life;
 use jobs::kinds::spec_from;
 use jobs::naming::name_from;
 use jobs::phase::Place;
-use jobs::rows::{machine_row, task_kind, task_row, task_rows};
+use jobs::rows::{machine_number, machine_row, task_kind, task_row, task_rows};
 use jobs::tasks::place_task;
 
 // The place on the machine in a row, in the life that was last heard.
@@ -24,7 +24,7 @@ fn place_on(row: &[u64]) -> Place
     ensures life { result.life.0 ≡ at row.now 5 }
 {
     Place {
-        machine: MachineId((row[1] % 65536) as u16),
+        machine: machine_number(row[1]),
         life: Life(row[5]),
     }
 }

@@ -86,12 +86,19 @@ fn heard_machine(home: &mut [u64], live: &mut [u64], i: usize) -> Result<(), Fai
     if home.len() < HOME_WORDS || live.len() < LIVE_WORDS || i >= 256 {
         return Err(Fail::new("too short"));
     }
-    let _ = add_machine(home, live, machine(i as u16 + 1));
-    if i >= machine_rows(home) {
+    if add_machine(home, live, machine(i as u16 + 1)).is_err() || i >= machine_rows(home) {
         return Err(Fail::new("no machine"));
     }
     hear(home, live, i, Life(1), ReportNumber(1), 1);
     Ok(())
+}
+
+// One more job.
+fn add(home: &mut [u64], job: Job) -> Result<(), Fail> {
+    if home.len() < HOME_WORDS {
+        return Err(Fail::new("too short"));
+    }
+    add_job(home, job).map_err(|_| Fail::new("no more jobs"))
 }
 
 // The first task goes to the first machine, the next to the one with most left; a third isn't wanted.
@@ -101,7 +108,7 @@ fn tasks_spread(rt: HostRuntime) -> Result<(), Fail> {
     let mut live = [0; LIVE_WORDS];
     heard_machine(&mut home, &mut live, 0)?;
     heard_machine(&mut home, &mut live, 1)?;
-    let _ = add_job(&mut home, job(1, 0, 2));
+    add(&mut home, job(1, 0, 2))?;
     assert_eq!(rt; pass(&mut home, &mut live, 0)?, [1, 1, 1]);
     assert_eq!(rt; pass(&mut home, &mut live, 1)?, [2, 1, 2]);
     assert_eq!(rt; pass(&mut home, &mut live, 2)?, [0, 0, 0]);
@@ -115,7 +122,7 @@ fn versions_roll(rt: HostRuntime) -> Result<(), Fail> {
     let mut live = [0; LIVE_WORDS];
     heard_machine(&mut home, &mut live, 0)?;
     heard_machine(&mut home, &mut live, 1)?;
-    let _ = add_job(&mut home, job(1, 0, 2));
+    add(&mut home, job(1, 0, 2))?;
     assert_eq!(rt; pass(&mut home, &mut live, 0)?, [1, 1, 1]);
     assert_eq!(rt; pass(&mut home, &mut live, 1)?, [2, 1, 2]);
     live[READY_BASE] = 1;
@@ -137,7 +144,7 @@ fn tags_are_missed(rt: HostRuntime) -> Result<(), Fail> {
     let mut live = [0; LIVE_WORDS];
     heard_machine(&mut home, &mut live, 0)?;
     heard_machine(&mut home, &mut live, 1)?;
-    let _ = add_job(&mut home, job(1, 1, 2));
+    add(&mut home, job(1, 1, 2))?;
     assert_eq!(rt; pass(&mut home, &mut live, 0)?, [1, 0, 0]);
     assert_eq!(rt; pass(&mut home, &mut live, 1)?, [2, 0, 0]);
     Ok(())

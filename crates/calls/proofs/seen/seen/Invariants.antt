@@ -1,9 +1,8 @@
-use Rattle.std.proofs.Common.{◌≡◌, ◌-◌, ◌*◌, ◌/◌, length, drop}
+use Rattle.std.proofs.Common.{◌≡◌}
 use Rattle.model.specs.Calls.{seen_as}
-use Rattle.model.specs.Wire.{seens_in}
 use Rattle.calls.specs.Meaning.{seens_of}
 use Rattle.calls.proofs.seen.seen.Given as goal
 
--- it isn't before this place
-abbrev pub invariant-loop-i : goal.invariant-loop-i
-invariant-loop-i l = seen_as l.id.0 (seens_in (length l.tasks / 9 - l.i) (drop (9 * l.i) l.tasks)) ≡ seen_as l.id.0 (seens_of l.tasks)
+-- it isn't before what is left
+abbrev pub invariant-loop-task : goal.invariant-loop-task
+invariant-loop-task l = record { nine : l.task-iterator.size ≡ 9; rest : seen_as l.id.0 (seens_of l.task-iterator.rest.now) ≡ seen_as l.id.0 (seens_of l.tasks) }

@@ -7,5 +7,5 @@ returns-then-row-eq0 c = job_hole c.args.home.now c.job_row-row.result.now c.arg
 
 pub returns : goal.returns
 returns c =
-    c.found_in.ensures ∙
+    c.eq.ensures ∙
     job_found c.args.home.now c.job_row-row.result.now c.args.i _ c.requires.within c.job_row-row.ensures.is c.if-row-eq0.false c.name_from.ensures c.find_job.result c.find_job.ensures

@@ -1,15 +1,11 @@
-use Rattle.std.proofs.Common.{sym, ◌∙◌, arith}
-use Rattle.calls.proofs.Different.{jobs_none, jobs_more, jobs_all, jobs_twice}
+use Rattle.std.proofs.Common.{◌∙◌, refl, arith, rules}
+use Rattle.std.proofs.lemmas.Iterator.{YieldsList-from_range}
+use Rattle.std.proofs.lemmas.Iterator.Search.{all_from_yields_List}
+use Rattle.calls.specs.Sound.{first_job_lem}
+use Rattle.calls.proofs.Different.{jobs_each}
 use Rattle.calls.proofs.sound.sound_jobs.Goals as goal
 
-pub loop-i-init : goal.loop-i-init
-loop-i-init c = jobs_none c.args.home.now
-
-pub loop-i-preserved : goal.loop-i-preserved
-loop-i-preserved c = jobs_more c.args.home.now c.loop-i.i c.loop-i.invariant (sym c.first_job.ensures ∙ c.if-not-first_job.false)
-
-pub returns-then-not-first_job : goal.returns-then-not-first_job
-returns-then-not-first_job c = jobs_twice c.args.home.now c.loop-i.i (omega arith) (sym c.first_job.ensures ∙ c.if-not-first_job.true)
-
 pub returns : goal.returns
-returns c = jobs_all c.args.home.now c.loop-i.i (omega arith) c.loop-i.invariant
+returns c =
+    all_from_yields_List (first_job_lem c.args.home.now) _ _ _ c.all.ensures.ran (YieldsList-from_range 0 c.job_rows.result c.job_rows.result refl (omega arith)) (λ x b q k. search rules) ∙
+    jobs_each c.args.home.now c.job_rows.result c.job_rows.ensures.is

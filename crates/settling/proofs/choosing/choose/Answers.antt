@@ -1,4 +1,4 @@
-use Rattle.std.proofs.Common.{◌≡◌, ℕ, ◌-◌, true, false, List, [], ◌∷◌, get_or, sym, ap, ◌∙◌, arith, rules}
+use Rattle.std.proofs.Common.{◌≡◌, ℕ, ◌-◌, true, false, List, [], ◌∷◌, get_or, take, sym, ap, ◌∙◌, arith}
 use Rattle.model.specs.Lists.{keep, every}
 use Rattle.model.specs.State as s
 use Rattle.model.specs.Settle.{takes, best, left}
@@ -52,20 +52,20 @@ machines-preserved-then-not-has_tag c =
     let h = at live c.machines.r in
     let m = machine_from (machine_row_lem home c.machines.r) h in
     let l = get_or c.args.loads.now c.machines.r no_load in
-    let tags = c.args.spec.now.tags in
+    let tags = take c.from.result c.args.spec.now.tags in
     let is : machine_at home live c.machines.r ≡ m ∷ [] = slot_full (at (machine_row_lem home c.machines.r) 0) m (λ e. c.if-row-eq0.false (ap (λ (x : List ℕ). at x 0) c.machine_row-row.ensures.is ∙ e)) in
-    let no' : has_tag_lem m (get_or tags c.loop-a.a 0) ≡ false = ap (λ (x : List ℕ). has_tag_lem (machine_from x h) (get_or tags c.loop-a.a 0)) (sym c.machine_row-row.ensures.is) ∙ sym c.has_tag.ensures ∙ c.if-not-has_tag.true in
-    let e : every (has_tag_lem m) (spec_of c.args.spec.now).tags ≡ false = sym c.loop-a.invariant ∙ each_not (has_tag_lem m) tags c.args.spec.now.count c.loop-a.a (omega arith) (search rules) no' in
+    let no' : has_tag_lem m (get_or tags c.loop-tag.tag-index 0) ≡ false = ap (λ (x : List ℕ). has_tag_lem (machine_from x h) (get_or tags c.loop-tag.tag-index 0)) (sym c.machine_row-row.ensures.is) ∙ sym c.has_tag.ensures ∙ c.if-not-has_tag.true in
+    let e : every (has_tag_lem m) (spec_of c.args.spec.now).tags ≡ false = sym c.loop-tag.invariant ∙ each_not (has_tag_lem m) tags c.loop-tag.tag-index (omega arith) no' in
     let g : every (has_tag_lem m) t.spec.tags ≡ false = ap (λ (a : s.Spec). every (has_tag_lem m) a.tags) (sym c.requires.spec) ∙ e in
     skips (takes c.args.time t ts) ts (machine_at home live) (machine_rows_lem home) c.machines.r (omega arith) m is c.machines.best (lacks_tag c.args.time t ts m l g) c.machines.invariant
 
-pub loop-a-preserved : goal.loop-a-preserved
-loop-a-preserved c =
+pub loop-tag-preserved : goal.loop-tag-preserved
+loop-tag-preserved c =
     let h = at c.args.live.now c.machines.r in
     let m = machine_from (machine_row_lem c.args.home.now c.machines.r) h in
-    let tags = c.args.spec.now.tags in
-    let yes' : has_tag_lem m (get_or tags c.loop-a.a 0) ≡ true = ap (λ (x : List ℕ). has_tag_lem (machine_from x h) (get_or tags c.loop-a.a 0)) (sym c.machine_row-row.ensures.is) ∙ sym c.has_tag.ensures ∙ c.if-not-has_tag.false in
-    each_next (has_tag_lem m) tags c.args.spec.now.count c.loop-a.a (omega arith) (search rules) yes' ∙ c.loop-a.invariant
+    let tags = take c.from.result c.args.spec.now.tags in
+    let yes' : has_tag_lem m (get_or tags c.loop-tag.tag-index 0) ≡ true = ap (λ (x : List ℕ). has_tag_lem (machine_from x h) (get_or tags c.loop-tag.tag-index 0)) (sym c.machine_row-row.ensures.is) ∙ sym c.has_tag.ensures ∙ c.if-not-has_tag.false in
+    each_next (has_tag_lem m) tags c.loop-tag.tag-index (omega arith) yes' ∙ c.loop-tag.invariant
 
 pub overflow_sub-from : goal.overflow_sub-from
 overflow_sub-from c =
@@ -73,7 +73,7 @@ overflow_sub-from c =
     let row = c.machine_row-row.result.now in
     let l = get_or c.args.loads.now c.machines.r no_load in
     let yes' : fits_on_lem c.args.time (spec_of c.args.spec.now) l (machine_from row h) ≡ true = sym c.fits_on.ensures ∙ c.if-not-fits_on.false in
-    omega (arith, fits_cpu c.args.time (spec_of c.args.spec.now) l (machine_from row h) yes', c.from.ensures, c.low_half.ensures)
+    omega (arith, fits_cpu c.args.time (spec_of c.args.spec.now) l (machine_from row h) yes', c.from-in-machines.ensures, c.low_half.ensures)
 
 pub machines-preserved : goal.machines-preserved
 machines-preserved c =
@@ -84,13 +84,13 @@ machines-preserved c =
     let h = at live c.machines.r in
     let m = machine_from (machine_row_lem home c.machines.r) h in
     let l = get_or c.args.loads.now c.machines.r no_load in
-    let tags = c.args.spec.now.tags in
+    let tags = take c.from.result c.args.spec.now.tags in
     let k : LoadBy t.job m.num ts l = c.requires.loads c.machines.r no_load (omega arith) in
     let is : machine_at home live c.machines.r ≡ m ∷ [] = slot_full (at (machine_row_lem home c.machines.r) 0) m (λ e. c.if-row-eq0.false (ap (λ (x : List ℕ). at x 0) c.machine_row-row.ensures.is ∙ e)) in
     let fit : fits_on_lem c.args.time t.spec l m ≡ true = ap (λ (a : s.Spec). fits_on_lem c.args.time a l m) (sym c.requires.spec) ∙ ap (λ (x : List ℕ). fits_on_lem c.args.time (spec_of c.args.spec.now) l (machine_from x h)) (sym c.machine_row-row.ensures.is) ∙ sym c.fits_on.ensures ∙ c.if-not-fits_on.false in
-    let e : every (has_tag_lem m) (spec_of c.args.spec.now).tags ≡ true = sym c.loop-a.invariant ∙ each_end (has_tag_lem m) tags c.args.spec.now.count c.loop-a.a (omega arith) in
+    let e : every (has_tag_lem m) (spec_of c.args.spec.now).tags ≡ true = sym c.loop-tag.invariant ∙ each_end (has_tag_lem m) tags c.loop-tag.tag-index (omega arith) in
     let g : every (has_tag_lem m) t.spec.tags ≡ true = ap (λ (a : s.Spec). every (has_tag_lem m) a.tags) (sym c.requires.spec) ∙ e in
-    let cpu : c.from.result ≡ m.cpu = c.from.ensures ∙ c.low_half.ensures ∙ ap (λ (x : List ℕ). low (at x 2)) c.machine_row-row.ensures.is in
-    let v : c.from.result - l.cpu ≡ left m ts = ap (λ (x : ℕ). x - l.cpu) cpu ∙ left_is c.args.time t ts m l k in
+    let cpu : c.from-in-machines.result ≡ m.cpu = c.from-in-machines.ensures ∙ c.low_half.ensures ∙ ap (λ (x : List ℕ). low (at x 2)) c.machine_row-row.ensures.is in
+    let v : c.from-in-machines.result - l.cpu ≡ left m ts = ap (λ (x : ℕ). x - l.cpu) cpu ∙ left_is c.args.time t ts m l k in
     rw c.improve-best.ensures
-    (tries (takes c.args.time t ts) ts (machine_at home live) (machine_rows_lem home) c.machines.r (omega arith) m is c.machines.best (c.from.result - l.cpu) (lacks_none c.args.time t ts m l k fit g) v c.machines.invariant)
+    (tries (takes c.args.time t ts) ts (machine_at home live) (machine_rows_lem home) c.machines.r (omega arith) m is c.machines.best (c.from-in-machines.result - l.cpu) (lacks_none c.args.time t ts m l k fit g) v c.machines.invariant)

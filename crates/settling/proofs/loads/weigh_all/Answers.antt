@@ -5,10 +5,10 @@ use Rattle.jobs.specs.Values.{name_of}
 use Rattle.settling.specs.Place.{Loaded}
 use Rattle.settling.proofs.Weighs.{loaded_none, loaded_more, loaded_same, loaded_light}
 use Rattle.settling.proofs.loads.weigh_all.Goals as goal
-use Rattle.settling.proofs.loads.weigh_all.Goals.{in-Some, in-None}
+use Rattle.settling.proofs.loads.weigh_all.Goals.{in-Some, in_default}
 
 pub loop-i-init : goal.loop-i-init
-loop-i-init c = λ live. loaded_none (name_of c.args.job.now) c.args.home.now live c.clear_all.new.loads c.clear_all.ensures
+loop-i-init c = λ live. loaded_none (name_of c.args.job.now) c.args.home.now live c.fill.new.self (search rules)
 
 pub add_to_all-requires : goal.add_to_all-requires
 add_to_all-requires c = record {
@@ -26,5 +26,5 @@ loop-i-preserved c =
     let home = c.args.home.now in
     elim c.match-weight.branch [
       | in-Some w ↦ rw w.loads-is (λ live. loaded_more job home live c.loop-i.i c.loop-i.loads w.add_to_all.new.loads w.in-Some.w (w.in-Some.ensures live) w.add_to_all.ensures (c.loop-i.invariant live))
-      | in-None w ↦ rw w.loads-is (λ live. loaded_same job home live c.loop-i.i c.loop-i.loads (w.in-None.ensures live) (c.loop-i.invariant live))
+      | in_default w ↦ rw w.loads-is (λ live. loaded_same job home live c.loop-i.i c.loop-i.loads (w.in_default.ensures live) (c.loop-i.invariant live))
     ]

@@ -1,16 +1,16 @@
-use Rattle.std.proofs.Common.{sym, ap, ◌∙◌, arith, rules}
+use Rattle.std.proofs.Common.{ℕ, ap, ◌∙◌, refl, arith, rules}
+use Rattle.std.proofs.lemmas.Iterator.{YieldsList-from_range}
+use Rattle.std.proofs.lemmas.Iterator.Search.{any_from_yields_List}
 use Rattle.model.specs.Lists.{some}
-use Rattle.jobs.specs.Tables.{machine_at, machine_rows_lem}
-use Rattle.jobs.proofs.Spans.{span_none}
+use Rattle.jobs.specs.Rows.{span}
+use Rattle.jobs.specs.Tables.{machine_at}
 use Rattle.settling.specs.Scan.{is_present}
-use Rattle.settling.proofs.Scans.{some_none, some_next, some_found}
+use Rattle.settling.proofs.Scans.{some_each}
 use Rattle.settling.proofs.presence.heard_of.Goals as goal
 
-pub loop-i-init : goal.loop-i-init
-loop-i-init c = ap (some (is_present c.args.time c.args.num.0)) (span_none (machine_at c.args.home.now c.args.live.now) 0) ∙ some_none (is_present c.args.time c.args.num.0)
-
-pub returns-then-present_in : goal.returns-then-present_in
-returns-then-present_in c = sym (some_found (is_present c.args.time c.args.num.0) (machine_at c.args.home.now c.args.live.now) c.loop-i.i (machine_rows_lem c.args.home.now) (omega arith) (search rules))
-
-pub loop-i-preserved : goal.loop-i-preserved
-loop-i-preserved c = some_next (is_present c.args.time c.args.num.0) (machine_at c.args.home.now c.args.live.now) c.loop-i.i c.loop-i.invariant (search rules)
+pub returns : goal.returns
+returns c =
+    let p = is_present c.args.time c.args.num.0 in
+    let f = machine_at c.args.home.now c.args.live.now in
+    let n = c.machine_rows.result in
+    any_from_yields_List (λ i. some p (f i)) _ _ _ c.any.ensures.ran (YieldsList-from_range 0 n n refl (omega arith)) (λ x b q k. search rules) ∙ some_each p f 0 n ∙ ap (λ (k : ℕ). some p (span f 0 k)) c.machine_rows.ensures.is
