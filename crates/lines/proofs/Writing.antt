@@ -78,12 +78,11 @@ puts_part w at out ys h e =
       long = simp (length-append, length-drop) (omega (arith, e, f));
     }
 
-pub puts_number : (w n at : ℕ) (out ys : Bytes) → at + w ≤ length out → ys ≡ bytes_of (length (take (at + w - at) (drop at out))) n → Puts (bytes_of w n) out (put_mid at (at + w - at) out ys) at (at + w)
-puts_number w n at out ys h e =
-    let k : at + w - at ≡ w = omega arith in
-    let l : length (take (at + w - at) (drop at out)) ≡ w = rw k (row_length w at out h) in
-    let f : ys ≡ bytes_of w n = e ∙ ap (λ (x : ℕ). bytes_of x n) l in
-    puts_as f (puts_part w at out ys h (ap length f ∙ length_bytes_of w n))
+pub puts_number : (w n at : ℕ) (out ys : Bytes) (end m : ℕ) → at + w ≤ length out → end ≡ at + w → m ≡ n → ys ≡ bytes_of (length (take (end - at) (drop at out))) m → Puts (bytes_of w n) out (put_mid at (end - at) out ys) at end
+puts_number w n at out ys end m h e k f =
+    let l : length (take (end - at) (drop at out)) ≡ w = let d : end - at ≡ w = omega (arith, e) in rw d (row_length w at out h) in
+    let g : ys ≡ bytes_of w n = f ∙ (λ i. bytes_of (l i) (k i)) in
+    rw e (puts_as g (puts_part w at out ys h (ap length g ∙ length_bytes_of w n)))
 
 -- TAGS
 

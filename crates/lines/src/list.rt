@@ -8,7 +8,7 @@ ghost use Rattle.lines.specs.Listings.{line_of, order_of, runs_on_lem};
 
 use crate::listing::{Listed, Listing};
 use crate::named::is_of;
-use crate::write::{put_spec, put_u8, put_u16, put_u32, put_u64};
+use crate::write::{put_number, put_spec, put_u8};
 use jobs::ids::MachineId;
 use jobs::kinds::{spec_from, version_from};
 use jobs::phase::Phase;
@@ -40,7 +40,7 @@ impl Listing for RunsOn {
         if !runs_on(row, self.0) {
             return done;
         }
-        let end = put_u64(out, done.end, row[0]);
+        let end = put_number(out, done.end, row[0]);
         let end = put_spec(out, end, &spec_from(task_kind(row)));
         Listed {
             end,
@@ -83,10 +83,10 @@ impl<'a> Listing for OfJob<'a> {
             return done;
         }
         let phase = phase_from(row, ready);
-        let end = put_u64(out, done.end, row[0]);
-        let end = put_u32(out, end, version_from(task_kind(row)).0);
+        let end = put_number(out, done.end, row[0]);
+        let end = put_number(out, end, version_from(task_kind(row)).0);
         let end = put_u8(out, end, phase_number(phase));
-        let end = put_u16(out, end, machine_number(phase));
+        let end = put_number(out, end, machine_number(phase));
         Listed {
             end,
             count: done.count + 1,

@@ -8,7 +8,7 @@ ghost use Rattle.jobs.specs.Tables.{task_slot, tasks_of};
 ghost use Rattle.lines.specs.Listings.{Lists, each_bytes};
 ghost use Rattle.lines.specs.Puts.{Puts};
 
-use crate::write::put_u16;
+use crate::write::put_number;
 use jobs::layout::READY_BASE;
 use jobs::rows::{task_row, task_rows};
 
@@ -71,6 +71,6 @@ pub fn put_list<L: Listing>(
     ensures room { result ≤ at + 110594 }
 {
     let listed = put_rows(listing, out, at + 2, home, live);
-    let _ = put_u16(out, at, listed.count);
+    let _ = put_number(out, at, listed.count);
     listed.end
 }

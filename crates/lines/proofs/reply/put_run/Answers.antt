@@ -7,7 +7,7 @@ use Rattle.lines.proofs.reply.put_run.Goals as goal
 pub returns : goal.returns
 returns c =
     record {
-      bytes = puts_then c.put_u8-end.ensures.bytes (puts_then c.put_u16-end.ensures.bytes (puts_then c.put_u64-end.ensures.bytes (puts_then c.put_u64-end-2.ensures.bytes
+      bytes = puts_then c.put_u8-end.ensures.bytes (puts_then c.put_number-end.ensures.bytes (puts_then c.put_number-end-2.ensures.bytes (puts_then c.put_number-end-3.ensures.bytes
           (puts_as (orders_list c.args.run.machine.0 (tasks_of c.args.home.now c.args.live.now)) c.put_list.ensures.bytes))));
       room = search rules;
     }

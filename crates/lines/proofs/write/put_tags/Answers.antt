@@ -7,11 +7,11 @@ use Rattle.lines.proofs.write.put_tags.Goals as goal
 pub loop-tag-init : goal.loop-tag-init
 loop-tag-init c = (tags_none c.args.tags.now c.args.out.now c.args.at, omega arith)
 
-pub put_u32-end-requires : goal.put_u32-end-requires
-put_u32-end-requires c = omega (arith, c.loop-tag.invariant.0.long, c.loop-tag.invariant.1, c.requires)
+pub put_number-end-requires : goal.put_number-end-requires
+put_number-end-requires c = omega (arith, c.loop-tag.invariant.0.long, c.loop-tag.invariant.1, c.requires)
 
 pub loop-tag-preserved : goal.loop-tag-preserved
-loop-tag-preserved c = (tags_more c.args.tags.now _ _ _ c.loop-tag.tag-index _ _ _ c.loop-tag-test.true c.loop-tag.invariant.0 c.put_u32-end.ensures.bytes, omega (arith, c.loop-tag.invariant.1, c.put_u32-end.ensures.end))
+loop-tag-preserved c = (tags_more c.args.tags.now _ _ _ c.loop-tag.tag-index _ _ _ c.loop-tag-test.true c.loop-tag.invariant.0 c.put_number-end.ensures.bytes, omega (arith, c.loop-tag.invariant.1, c.put_number-end.ensures.end))
 
 pub returns : goal.returns
 returns c =

@@ -12,7 +12,7 @@ returns c =
     record {
       lists = line_in c.args.row.now _ c.args.ready _ _ _ _ c.if-not-is_of.ensures (c.version_from.ensures ∙ ap version_from_lem c.task_kind.ensures.is)
           (c.phase_number.ensures ∙ ap phase_of c.phase_from-phase.ensures.phase) (c.machine_number.ensures ∙ c.phase_from-phase.ensures.machine)
-          c.put_u64-end.ensures.bytes c.put_u32-end.ensures.bytes c.put_u8-end.ensures.bytes c.put_u16-end.ensures.bytes;
+          c.put_number-end.ensures.bytes c.put_number-end-2.ensures.bytes c.put_u8-end.ensures.bytes c.put_number-end-3.ensures.bytes;
       room = search rules;
       few = omega arith;
     }

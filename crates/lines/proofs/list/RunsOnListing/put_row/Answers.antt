@@ -9,7 +9,7 @@ returns-then-not-runs_on c = record { lists = order_out c.args.row.now _ _ c.arg
 pub returns : goal.returns
 returns c =
     record {
-      lists = order_in_lem c.args.row.now _ _ _ _ c.if-not-runs_on.ensures (c.spec_from.ensures ∙ ap spec_from_lem c.task_kind.ensures.is) c.put_u64-end.ensures.bytes c.put_spec-end.ensures.bytes;
+      lists = order_in_lem c.args.row.now _ _ _ _ c.if-not-runs_on.ensures (c.spec_from.ensures ∙ ap spec_from_lem c.task_kind.ensures.is) c.put_number-end.ensures.bytes c.put_spec-end.ensures.bytes;
       room = search rules;
       few = omega arith;
     }
