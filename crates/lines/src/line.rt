@@ -69,12 +69,7 @@ impl Line {
         if self.count < 8 || value(&self.bytes[0..4]) + 4 != self.count {
             return &self.bytes[0..0];
         }
-        let held = if self.count < ROOM as u64 {
-            self.count as usize
-        } else {
-            ROOM
-        };
-        &self.bytes[8..held]
+        &self.bytes[8..self.count.min(ROOM as u64) as usize]
     }
 
     // Is the line longer than is held: then no call in it can be done.
@@ -88,7 +83,9 @@ impl Line {
     pub fn kind(&self) -> u8
         ensures { (line : List ℕ) → Holds self.now.bytes self.now.count line → result ≡ kind_in (call_in line) }
     {
-        let call = self.call();
-        if call.len() > 0 { call[0] } else { 0 }
+        match self.call() {
+            [kind, ..] => *kind,
+            [] => 0,
+        }
     }
 }

@@ -67,9 +67,7 @@ fn machine_number(phase: Phase) -> u16
 {
     match phase {
         Phase::Waiting => 0,
-        Phase::Told(place) => place.machine.0,
-        Phase::Ready(place) => place.machine.0,
-        Phase::Ending(place) => place.machine.0,
+        Phase::Told(place) | Phase::Ready(place) | Phase::Ending(place) => place.machine.0,
     }
 }
 

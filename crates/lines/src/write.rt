@@ -1,4 +1,5 @@
 // What answers are made of, as bytes, each behind what is written already.
+// No struct joins `out` and `at`: it would hold a `&mut`, and each function would have to state that it is still that one.
 ghost use Rattle.std.specs.Prelude.{◌≡◌, ◌+◌, ◌*◌, ◌≤◌, [], ◌∷◌, length};
 ghost use Rattle.model.specs.Wire.{bytes_of, flag_of, spec_bytes, tag_bytes};
 ghost use Rattle.jobs.specs.Values.{spec_of};
