@@ -3,6 +3,7 @@
 
 pub mod answer;
 pub mod hex;
+pub mod input;
 pub mod kind;
 pub mod line;
 pub mod list;
