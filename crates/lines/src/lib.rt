@@ -8,7 +8,6 @@ pub mod kind;
 pub mod line;
 pub mod list;
 pub mod listing;
-pub mod named;
 pub mod read;
 pub mod reader;
 pub mod reply;

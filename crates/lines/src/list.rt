@@ -1,16 +1,18 @@
 // The two lists of tasks that answers have: what is to run on a machine, and what a job's tasks are.
-ghost use Rattle.std.specs.Prelude.{◌≡◌, ◌%◌, not, ◌&&◌, length, ◌==◌};
+ghost use Rattle.std.specs.Prelude.{◌≡◌, ◌%◌, not, ◌&&◌, length, drop, ◌==◌};
+ghost use Rattle.model.specs.Lists.{same};
 ghost use Rattle.model.specs.State.{of_job};
 ghost use Rattle.model.specs.Wire as w;
 ghost use Rattle.jobs.specs.Rows.{at};
+ghost use Rattle.jobs.specs.Tables.{name_from_lem};
 ghost use Rattle.jobs.specs.Values.{machine_of, phase_of};
 ghost use Rattle.lines.specs.Listings.{line_of, order_of, runs_on_lem};
 
 use crate::listing::{Listed, Listing};
-use crate::named::is_of;
 use crate::write::{put_number, put_spec, put_u8};
 use jobs::ids::MachineId;
 use jobs::kinds::{spec_from, version_from};
+use jobs::naming::is_named;
 use jobs::phase::Phase;
 use jobs::rows::task_kind;
 use jobs::tasks::phase_from;
@@ -47,6 +49,14 @@ impl Listing for RunsOn {
             count: done.count + 1,
         }
     }
+}
+
+// Is there a task of the job of that name in a row.
+pub fn is_of(row: &[u64], name: &[u8]) -> bool
+    requires { length row.now ≡ 27 }
+    ensures { result ≡ (not (at row.now 0 == 0) && same name.now (name_from_lem (drop 4 row.now))) }
+{
+    row[0] != 0 && is_named(task_kind(row), &name)
 }
 
 // The number that the bytes have for a phase.
