@@ -107,8 +107,8 @@ fn make(rt: &HostRuntime, paths: Paths<'_>) -> io::Result<()> {
 }
 
 fn read_all(file: &mut File, mirror: &mut [u64; WORDS]) -> io::Result<()> {
-    for k in 0..512 {
-        read_part(file, &mut mirror[512 * k..512 * k + 512])?;
+    for part in mirror.chunks_exact_mut(512) {
+        read_part(file, part)?;
     }
     Ok(())
 }

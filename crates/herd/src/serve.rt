@@ -6,8 +6,6 @@ use lines::reader::Reader;
 use std::io;
 use std::io::Write;
 
-const NEWLINE: u8 = 10;
-
 // The line of text is at its end: its answer goes out, in one write.
 fn reply(rt: &HostRuntime, reader: &mut Reader) -> io::Result<()> {
     let bytes = answer(reader.finish());
@@ -23,7 +21,7 @@ fn reply(rt: &HostRuntime, reader: &mut Reader) -> io::Result<()> {
 
 // One character more; whether a line has begun then.
 fn take(rt: &HostRuntime, reader: &mut Reader, c: u8) -> io::Result<bool> {
-    if c == NEWLINE {
+    if c == b'\n' {
         reply(rt, reader)?;
         return Ok(false);
     }

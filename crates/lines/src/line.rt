@@ -9,6 +9,7 @@ use octets::number::value;
 // The longest line that may be done: a frame with a report of 2,048 tasks.
 pub const ROOM: usize = 18_461;
 
+// Fixed memory and no heap, by a rule of the project.
 #[derive(Drop)]
 pub struct Line {
     bytes: [u8; ROOM],

@@ -8,7 +8,7 @@ ghost use Rattle.jobs.specs.Tables.{name_from_lem};
 ghost use Rattle.jobs.specs.Values.{machine_of, phase_of};
 ghost use Rattle.lines.specs.Listings.{line_of, order_of, runs_on_lem};
 
-use crate::listing::{Listed, Listing};
+use crate::listing::Listing;
 use crate::write::{put_number, put_spec, put_u8};
 use jobs::ids::MachineId;
 use jobs::kinds::{spec_from, version_from};
@@ -38,16 +38,13 @@ impl Listing for RunsOn {
 
     ghost each = { λ _. order_of };
 
-    fn put_row(&self, out: &mut [u8], done: Listed, row: &[u64], _ready: u64) -> Listed {
-        if !runs_on(row, self.0) {
-            return done;
-        }
-        let end = put_number(out, done.end, row[0]);
-        let end = put_spec(out, end, &spec_from(task_kind(row)));
-        Listed {
-            end,
-            count: done.count + 1,
-        }
+    fn lists(&self, row: &[u64]) -> bool {
+        runs_on(row, self.0)
+    }
+
+    fn put_task(&self, out: &mut [u8], at: usize, row: &[u64], _ready: u64) -> usize {
+        let end = put_number(out, at, row[0]);
+        put_spec(out, end, &spec_from(task_kind(row)))
     }
 }
 
@@ -86,18 +83,15 @@ impl<'a> Listing for OfJob<'a> {
 
     ghost each = { λ _. line_of };
 
-    fn put_row(&self, out: &mut [u8], done: Listed, row: &[u64], ready: u64) -> Listed {
-        if !is_of(row, self.0) {
-            return done;
-        }
+    fn lists(&self, row: &[u64]) -> bool {
+        is_of(row, self.0)
+    }
+
+    fn put_task(&self, out: &mut [u8], at: usize, row: &[u64], ready: u64) -> usize {
         let phase = phase_from(row, ready);
-        let end = put_number(out, done.end, row[0]);
+        let end = put_number(out, at, row[0]);
         let end = put_number(out, end, version_from(task_kind(row)).0);
         let end = put_u8(out, end, phase_number(phase));
-        let end = put_number(out, end, machine_number(phase));
-        Listed {
-            end,
-            count: done.count + 1,
-        }
+        put_number(out, end, machine_number(phase))
     }
 }

@@ -19,6 +19,7 @@ use calls::answer::{Answer, RunOn};
 // The longest answer: a run of 2,048 tasks with eight tags each, and its frame.
 pub const ROOM: usize = 110_621;
 
+// Fixed memory and no heap, by a rule of the project.
 #[derive(Drop)]
 pub struct Reply {
     bytes: [u8; ROOM],
