@@ -1,9 +1,9 @@
 -- Bytes written one behind the other.
 -- Assumes nothing.
-use Rattle.std.proofs.Common.{◌≡◌, ℕ, ◌+◌, ◌-◌, ◌*◌, ◌<◌, ◌≤◌, Bool, true, false, List, [], ◌∷◌, ◌++◌, length, get_or, take, drop, set, sym, refl, ap, ◌∙◌, subst, append_assoc, append-nil, arith, length-set}
+use Rattle.std.proofs.Common.{◌≡◌, ℕ, ◌+◌, ◌-◌, ◌*◌, ◌<◌, ◌≤◌, Bool, true, false, List, [], ◌∷◌, ◌++◌, length, get_or, take, drop, sym, refl, ap, ◌∙◌, subst, append_assoc, append-nil, arith}
 use borrow.Rule.Slice.PartMut.{mid_of, put_mid}
 use mir.Val.{bool_byte}
-use Rattle.std.proofs.lemmas.List.{same_lists, places, drop_at, drop-set-lt, drop-take, take_at, take_more, take_more_set, length-append, length-drop, length-take-le}
+use Rattle.std.proofs.lemmas.List.{same_lists, places, drop_at, drop-take, take_at, take_more, length-append, length-drop, length-take-le}
 use Rattle.model.specs.Wire.{Bytes, bytes_of, flag_of, tag_bytes, spec_bytes}
 use Rattle.model.specs.Lines.{framed}
 use Rattle.octets.proofs.Numbers.{length_bytes_of}
@@ -46,9 +46,6 @@ puts_then {xs} {ys} {a} {b} {c} {i} {j} {k} p q = record {
 
 pub puts_as : {xs ys a b : Bytes} {i j : ℕ} → xs ≡ ys → Puts xs a b i j → Puts ys a b i j
 puts_as {xs} {ys} {a} {b} {i} {j} e p = subst (λ (t : Bytes). Puts t a b i j) e p
-
-pub puts_byte : (n at : ℕ) (out : Bytes) → at + 1 ≤ length out → Puts (n ∷ []) out (set out at n) at (at + 1)
-puts_byte n at out h = record { bytes = take_more_set out at n (omega arith); end = refl; rest = drop-set-lt (at + 1) out at n (omega arith); long = length-set out at n }
 
 -- what stands in front is written afterwards, into the place that was left for it
 pub puts_back : {xs ys a b c : Bytes} {i j k : ℕ} → j ≤ length a → Puts ys a b j k → Puts xs b c i j → Puts (xs ++ ys) a c i k
