@@ -6,3 +6,4 @@ pub mod Told
 pub mod Counter
 pub mod Bytes
 pub mod Server
+pub mod Opens

@@ -1,5 +1,6 @@
 // Opening the file `kept`, or making it.
-ghost use Rattle.std.specs.Prelude.{◌≡◌, length};
+ghost use Rattle.std.specs.Prelude.{◌≡◌, length, IfErr};
+ghost use Rattle.device.specs.Opens.{IsFair};
 
 use crate::bytes::decode;
 use crate::filed::Filed;
@@ -8,9 +9,19 @@ use std::fs::{File, OpenOptions};
 use std::io::{ErrorKind, Read};
 use std::{fmt, fs, io};
 
-const NAME: &str = "kept";
+// Where the file is, where it is made, and the directory of both.
+#[derive(Clone, Copy)]
+pub struct Paths<'a> {
+    pub file: &'a str,
+    pub aside: &'a str,
+    pub dir: &'a str,
+}
 
-const ASIDE: &str = "kept.new";
+const HERE: Paths<'static> = Paths {
+    file: "kept",
+    aside: "kept.new",
+    dir: ".",
+};
 
 // Eight bytes for each of 262,144 words.
 const BYTES: u64 = 2097152;
@@ -50,58 +61,54 @@ impl fmt::Display for OpenError {
 
 // Opens the file and reads its words into the mirror. A file of another length is refused; where there is none it is made, all 0.
 pub fn open<'a>(rt: &HostRuntime, mirror: &'a mut [u64; WORDS]) -> Result<Filed<'a>, OpenError> {
-    let mut file = open_or_make(rt)?;
-    let long = match file.metadata() {
-        Ok(about) => about.len(),
-        Err(e) => return Err(OpenError::Open(e)),
-    };
+    let mut file = open_at(rt, HERE)?;
+    read_all(&mut file, mirror).map_err(OpenError::Read)?;
+    Ok(Filed::of(file, mirror))
+}
+
+// Opens the file, or makes it, all 0. One of another length is refused, and left as it is.
+pub fn open_at(rt: &HostRuntime, paths: Paths<'_>) -> Result<File, OpenError>
+    ensures { IfErr result IsFair }
+{
+    let file = open_or_make(rt, paths)?;
+    let long = file.metadata().map_err(OpenError::Open)?.len();
     if long != BYTES {
         return Err(OpenError::Length(long));
     }
-    match read_all(&mut file, mirror) {
-        Ok(()) => Ok(Filed::of(file, mirror)),
-        Err(e) => Err(OpenError::Read(e)),
-    }
+    Ok(file)
 }
 
-fn open_or_make(rt: &HostRuntime) -> Result<File, OpenError> {
-    match open_file(rt) {
-        Ok(file) => return Ok(file),
-        Err(e) => {
-            if e.kind() != ErrorKind::NotFound {
-                return Err(OpenError::Open(e));
-            }
+fn open_or_make(rt: &HostRuntime, paths: Paths<'_>) -> Result<File, OpenError>
+    ensures { IfErr result IsFair }
+{
+    match open_file(rt, paths.file) {
+        Err(e) if e.kind() == ErrorKind::NotFound => {
+            make(rt, paths).map_err(OpenError::Make)?;
+            open_file(rt, paths.file).map_err(OpenError::Open)
         }
-    }
-    match make(rt) {
-        Ok(()) => {}
-        Err(e) => return Err(OpenError::Make(e)),
-    }
-    match open_file(rt) {
-        Ok(file) => Ok(file),
-        Err(e) => Err(OpenError::Open(e)),
+        opened => opened.map_err(OpenError::Open),
     }
 }
 
-fn open_file(rt: &HostRuntime) -> io::Result<File> {
+fn open_file(rt: &HostRuntime, path: &str) -> io::Result<File> {
     let mut how = OpenOptions::new();
     how.read(true).write(true);
-    how.open(rt, NAME)
+    how.open(rt, path)
 }
 
 // Made aside and moved into place as a whole, so that there is never a part of it.
-fn make(rt: &HostRuntime) -> io::Result<()> {
-    let file = File::create(rt, ASIDE)?;
+fn make(rt: &HostRuntime, paths: Paths<'_>) -> io::Result<()> {
+    let file = File::create(rt, paths.aside)?;
     file.set_len(BYTES)?;
     file.sync_all()?;
     drop(file);
-    fs::rename(rt, ASIDE, NAME)?;
-    File::open(rt, ".")?.sync_all()
+    fs::rename(rt, paths.aside, paths.file)?;
+    File::open(rt, paths.dir)?.sync_all()
 }
 
 fn read_all(file: &mut File, mirror: &mut [u64; WORDS]) -> io::Result<()> {
-    for k in 0..512 {
-        read_part(file, &mut mirror[512 * k..512 * k + 512])?;
+    for part in mirror.chunks_exact_mut(512) {
+        read_part(file, part)?;
     }
     Ok(())
 }

@@ -1,10 +1,8 @@
 // The file `kept`: 262,144 words of eight bytes, made where there is none.
+use device::open::{OpenError, Paths, open_at};
 use std::alloc::AllocError;
-use std::fs::{File, OpenOptions};
-use std::io::ErrorKind;
-use std::{fmt, fs, io};
-
-const BYTES: u64 = 2_097_152;
+use std::fs::File;
+use std::{fmt, io};
 
 // Why the herd does not go on.
 #[derive(Debug, Drop)]
@@ -21,6 +19,16 @@ pub enum Trouble {
 impl From<AllocError> for Trouble {
     fn from(_e: AllocError) -> Trouble {
         Trouble::Memory
+    }
+}
+
+impl From<OpenError> for Trouble {
+    fn from(e: OpenError) -> Trouble {
+        match e {
+            OpenError::Length(n) => Trouble::Length(n),
+            OpenError::Make(e) => Trouble::Make(e),
+            OpenError::Open(e) | OpenError::Read(e) => Trouble::Open(e),
+        }
     }
 }
 
@@ -50,53 +58,14 @@ impl fmt::Display for Trouble {
     }
 }
 
-fn open_file(rt: &HostRuntime, path: &str) -> io::Result<File> {
-    let mut how = OpenOptions::new();
-    how.read(true).write(true);
-    how.open(rt, path)
-}
-
-// Made aside and moved into place as a whole, so that there is never a part of it.
-fn make(rt: &HostRuntime, dir: &str, path: &str) -> io::Result<()> {
-    let aside = format!(in rt.alloc(); "{dir}/kept.new")?;
-    let file = File::create(rt, aside.as_str())?;
-    file.set_len(BYTES)?;
-    file.sync_all()?;
-    drop(file);
-    fs::rename(rt, aside.as_str(), path)?;
-    File::open(rt, dir)?.sync_all()
-}
-
-fn open_or_make(rt: &HostRuntime, dir: &str, path: &str) -> Result<File, Trouble> {
-    match open_file(rt, path) {
-        Ok(file) => return Ok(file),
-        Err(e) => {
-            if e.kind() != ErrorKind::NotFound {
-                return Err(Trouble::Open(e));
-            }
-        }
-    }
-    if let Err(e) = make(rt, dir, path) {
-        return Err(Trouble::Make(e));
-    }
-    match open_file(rt, path) {
-        Ok(file) => Ok(file),
-        Err(e) => Err(Trouble::Open(e)),
-    }
-}
-
 // Opens the file in this directory. One of another length is refused and left as it is.
 pub fn open(rt: &HostRuntime, dir: &str) -> Result<File, Trouble> {
-    let path = format!(in rt.alloc(); "{dir}/kept")?;
-    let file = open_or_make(rt, dir, path.as_str())?;
-    match file.metadata() {
-        Ok(about) => {
-            if about.len() == BYTES {
-                Ok(file)
-            } else {
-                Err(Trouble::Length(about.len()))
-            }
-        }
-        Err(e) => Err(Trouble::Open(e)),
-    }
+    let file = format!(in rt.alloc(); "{dir}/kept")?;
+    let aside = format!(in rt.alloc(); "{dir}/kept.new")?;
+    let paths = Paths {
+        file: file.as_str(),
+        aside: aside.as_str(),
+        dir,
+    };
+    Ok(open_at(rt, paths)?)
 }

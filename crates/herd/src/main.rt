@@ -10,10 +10,7 @@ use std::env;
 
 // The directory of the kept words: the only argument, else the one that it is started in.
 fn directory(rt: &HostRuntime) -> Result<String, Trouble> {
-    let mut args = match env::args(rt) {
-        Ok(args) => args.skip(1),
-        Err(e) => return Err(Trouble::Arguments(e)),
-    };
+    let mut args = env::args(rt).map_err(Trouble::Arguments)?.skip(1);
     let Some(dir) = args.next() else {
         return Ok(String::from_str(rt.alloc(), ".")?);
     };
@@ -26,10 +23,7 @@ fn directory(rt: &HostRuntime) -> Result<String, Trouble> {
 fn run(rt: &HostRuntime) -> Result<(), Trouble> {
     let dir = directory(rt)?;
     let _kept = kept::open(rt, dir.as_str())?;
-    match serve(rt) {
-        Ok(()) => Ok(()),
-        Err(e) => Err(Trouble::Lines(e)),
-    }
+    serve(rt).map_err(Trouble::Lines)
 }
 
 fn main(rt: HostRuntime) -> Result<(), Trouble> {

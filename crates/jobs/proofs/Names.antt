@@ -1,9 +1,8 @@
 -- Names, byte by byte.
 -- Assumes nothing.
-use Rattle.std.proofs.Common.{◌≡◌, ℕ, suc, ◌<◌, Bool, true, false, List, [], ◌∷◌, length, get_or, take, drop, sym, refl, ap, ◌∙◌, inl, inr, arith}
+use Rattle.std.proofs.Common.{◌≡◌, ℕ, suc, ◌<◌, true, false, List, [], ◌∷◌, length, get_or, take, drop, sym, refl, ap, ◌∙◌, inl, inr, arith}
 use Rattle.std.proofs.lemmas.List.FromFn.{length-map-range_with_len, get_or-map-range_with_len}
 use Rattle.std.proofs.lemmas.List.{ext_get_or, get_or-drop, length-drop, take_all}
-use Rattle.std.specs.Bool.{MatchBool}
 use Rattle.model.specs.Lists.{same}
 use Rattle.model.proofs.Lists.Tests.{bool}
 use Rattle.model.proofs.Tasks.Names.{same_eq, eq_same}
@@ -22,20 +21,15 @@ module _ (n : ℕ) (ws : List ℕ) where
   unfolding bytes_of
   get_d_bytes k h = get_or-map-range_with_len (byte_at ws) 0 n k k 0 h (omega arith)
 
-module _ (m n : ℕ) (us ws : List ℕ) where
-  pub other_length : (m ≡ n → ⊥) → same (bytes_of m us) (bytes_of n ws) ≡ false
-  other_length ne = not_same _ _ (λ e. ne (sym (length_bytes m us) ∙ ap length e ∙ length_bytes n ws))
+module _ (xs : List ℕ) (n : ℕ) (ws : List ℕ) where
+  pub other_length : (length xs ≡ n → ⊥) → same xs (bytes_of n ws) ≡ false
+  other_length ne = not_same _ _ (λ e. ne (ap length e ∙ length_bytes n ws))
 
-  pub other_byte : (k : ℕ) → m ≡ n → k < m → (byte_at us k ≡ byte_at ws k → ⊥) → same (bytes_of m us) (bytes_of n ws) ≡ false
-  other_byte k l h ne = not_same _ _ (λ e. ne (sym (get_d_bytes m us k h) ∙ ap (λ (x : List ℕ). get_or x k 0) e ∙ get_d_bytes n ws k (omega arith)))
+  pub other_byte : (k : ℕ) → length xs ≡ n → k < length xs → (get_or xs k 0 ≡ byte_at ws k → ⊥) → same xs (bytes_of n ws) ≡ false
+  other_byte k l h ne = not_same _ _ (λ e. ne (ap (λ (x : List ℕ). get_or x k 0) e ∙ get_d_bytes n ws k (omega arith)))
 
-  pub same_bytes : m ≡ n → ((k : ℕ) → k < m → byte_at us k ≡ byte_at ws k) → same (bytes_of m us) (bytes_of n ws) ≡ true
-  same_bytes l e = eq_same _ _ (ext_get_or 0 _ _ (length_bytes m us ∙ l ∙ sym (length_bytes n ws)) (λ k h. let o : k < m = omega (arith, length_bytes m us) in get_d_bytes m us k o ∙ e k o ∙ sym (get_d_bytes n ws k (omega arith))))
-
-  -- what comparing byte by byte says
-  pub bytes_compared : (r : Bool) → m ≡ n → MatchBool r ((k : ℕ) → k < m → byte_at us k ≡ byte_at ws k) ((k : ℕ) × (k < m) × (byte_at us k ≡ byte_at ws k → ⊥)) → r ≡ same (bytes_of m us) (bytes_of n ws)
-  bytes_compared true l h = sym (same_bytes l h)
-  bytes_compared false l h = sym (other_byte h.0 l h.1 h.2)
+  pub same_bytes : length xs ≡ n → ((k : ℕ) → k < length xs → get_or xs k 0 ≡ byte_at ws k) → same xs (bytes_of n ws) ≡ true
+  same_bytes l e = eq_same _ _ (ext_get_or 0 _ _ (l ∙ sym (length_bytes n ws)) (λ k h. e k h ∙ sym (get_d_bytes n ws k (omega arith))))
 
 pub eight : (xs : List ℕ) → length xs ≡ 8 → at xs 0 ∷ at xs 1 ∷ at xs 2 ∷ at xs 3 ∷ at xs 4 ∷ at xs 5 ∷ at xs 6 ∷ at xs 7 ∷ [] ≡ xs
 eight [] h = absurd (omega (arith, h))

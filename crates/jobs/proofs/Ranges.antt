@@ -1,11 +1,8 @@
 -- Chains over `0..n` and counts, said of the rows with these numbers.
 -- Assumes nothing.
-use Rattle.std.proofs.Common.{◌≡◌, ℕ, zero, suc, ◌+◌, ◌<◌, ◌≤◌, Bool, true, false, cond, List, [], ◌∷◌, length, Option, None, Some, MatchOption, not, ◌&&◌, ◌||◌, ◌==◌, sym, refl, ◌∙◌, subst, inl, inr, arith}
+use Rattle.std.proofs.Common.{◌≡◌, ℕ, zero, suc, ◌+◌, ◌<◌, ◌≤◌, Bool, true, false, cond, List, [], ◌∷◌, length, Option, None, Some, MatchOption, not, ◌&&◌, ◌||◌, ◌==◌, sym, refl, ◌∙◌, inl, inr, arith}
 use Rattle.std.proofs.lemmas.List.{length-append}
 use Rattle.std.proofs.lemmas.Bool.{cases_Bool, true≢false}
-use Rattle.std.proofs.lemmas.List.FromFn.{get_or-range_with_len, length-range_with_len}
-use Rattle.std.specs.Bool.{MatchBool}
-use Rattle.std.specs.List.{AllWithin, HoldsAt, range_with_len}
 use Rattle.model.specs.Lists.{find, some}
 use Rattle.jobs.specs.Rows.{at, row_at, span, entry_at}
 use Rattle.jobs.specs.Tables.{FoundAt}
@@ -85,11 +82,3 @@ module _ {X : Type 0} (p : X → Bool) (h : ℕ → Bool) (x : ℕ → X) where
   pub found_in_range : (n : ℕ) (o : Option ℕ) → MatchOption o ((k : ℕ) → 0 ≤ k → k < n → some p (row k) ≡ false) (λ i. (0 ≤ i) × (i < n) × (some p (row i) ≡ true) × ((k : ℕ) → 0 ≤ k → k < i → some p (row k) ≡ false)) → FoundAt p row n o
   found_in_range n None miss = none_before n (λ k l. miss k (omega arith) l)
   found_in_range n (Some i) y = let t = here i y.2 in find_this p row i (none_before i (λ k l. y.3 k (omega arith) l)) n (x i) y.1 t.0 t.1
-
--- a test of all numbers of a range
-pub all_in_range : (n : ℕ) (r : Bool) (Yes No : ℕ → Type 0) → MatchBool r (AllWithin Yes (range_with_len 0 n) 0 (length (range_with_len 0 n))) ((k : ℕ) × (k < length (range_with_len 0 n)) × HoldsAt No (range_with_len 0 n) k) → MatchBool r ((k : ℕ) → k < n → Yes k) ((k : ℕ) × (k < n) × No k)
-all_in_range n true good bad h = λ k l. subst good (get_or-range_with_len 0 n k 0 l ∙ (let z : 0 + k ≡ k = omega arith in z)) (h k 0 (omega arith) (omega (arith, l, length-range_with_len 0 n)))
-all_in_range n false good bad h = let l = within h.1 in (h.0, l, subst bad (get_or-range_with_len 0 n h.0 0 l ∙ (let z : 0 + h.0 ≡ h.0 = omega arith in z)) (h.2 0))
-  where
-    within : {k : ℕ} → k < length (range_with_len 0 n) → k < n
-    within q = omega (arith, q, length-range_with_len 0 n)

@@ -4,7 +4,7 @@ ghost use Rattle.jobs.specs.Rows.{at};
 ghost use Rattle.jobs.specs.Tables.{low, spec_from_lem, version_from_lem, job_from_lem};
 ghost use Rattle.jobs.specs.Values.{spec_of, job_of};
 
-use crate::ids::Version;
+use crate::ids::{MachineId, Version};
 use crate::job::Job;
 use crate::rows::{JobRow, Kind, Row, TaskRow};
 use crate::spec::Spec;
@@ -14,6 +14,13 @@ pub fn low_half(w: u64) -> u32
     ensures { result ≡ low w }
 {
     (w % 4_294_967_296) as u32
+}
+
+// A machine's number, as it stands in a machine's row and in a task's.
+pub(crate) fn machine_number(word: u64) -> MachineId
+    ensures { result.0 ≡ word % 65536 }
+{
+    MachineId((word % 65536) as u16)
 }
 
 impl<'a> JobRow<'a> {

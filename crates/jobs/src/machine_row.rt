@@ -6,14 +6,14 @@ ghost use Rattle.jobs.specs.Rows.{at};
 ghost use Rattle.jobs.specs.Tables.{flag, low, machine_slot};
 
 use crate::ids::{Life, MachineId, ReportNumber};
-use crate::kinds::low_half;
+use crate::kinds::{low_half, machine_number};
 use crate::rows::MachineRow;
 
 impl MachineRow<'_> {
     pub fn num(self) -> MachineId
         ensures { result.0 ≡ at self.entry.words.now 1 % 65536 }
     {
-        MachineId((self.words[1] % 65536) as u16)
+        machine_number(self.words[1])
     }
 
     // Is there a machine of that number, whenever it was heard.

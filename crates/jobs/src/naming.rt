@@ -1,5 +1,5 @@
 // Names in rows.
-ghost use Rattle.std.specs.Prelude.{◌≡◌, ℕ, ◌+◌, ◌-◌, ◌*◌, ◌<◌, ◌≤◌, min, length};
+ghost use Rattle.std.specs.Prelude.{◌≡◌, ℕ, ◌+◌, ◌-◌, ◌*◌, ◌<◌, ◌≤◌, min, List, length, slice_index};
 ghost use Rattle.model.specs.Lists.{same, some};
 ghost use Rattle.model.specs.State.{is_job};
 ghost use Rattle.jobs.specs.Tables.{byte_at, job_slot, name_from_lem};
@@ -8,24 +8,67 @@ ghost use Rattle.jobs.specs.Values.{name_of};
 use crate::name::Name;
 use crate::rows::{JobRow, Kind};
 
+// A name by its bytes, whether it stands in words or came as it is, of any length.
+pub trait Spelled {
+    ghost spelled: { Self → List ℕ };
+
+    fn len(&self) -> usize
+        ensures { result ≡ length (spelled self.now) };
+
+    fn byte(&self, k: usize) -> u8
+        requires { k < length (spelled self.now) }
+        ensures { result ≡ slice_index (spelled self.now) k };
+}
+
+impl Spelled for Name {
+    ghost spelled = { name_of };
+
+    fn len(&self) -> usize {
+        usize::from(self.len)
+    }
+
+    fn byte(&self, k: usize) -> u8 {
+        byte_at(&self.words, k)
+    }
+}
+
+impl<'a> Spelled for &'a [u8] {
+    ghost spelled = { λ name. name.now };
+
+    fn len(&self) -> usize {
+        let name: &[u8] = self;
+        name.len()
+    }
+
+    fn byte(&self, k: usize) -> u8 {
+        self[k]
+    }
+}
+
 // Byte `k` of eight words.
-fn byte_at(words: &[u64], k: u8) -> u8
+fn byte_at(words: &[u64], k: usize) -> u8
     requires long { 8 ≤ length words.now }
     requires within { k < 64 }
     ensures { result ≡ byte_at words.now k }
 {
-    words[usize::from(k / 8)].to_be_bytes()[usize::from(k % 8)]
+    words[k / 8].to_be_bytes()[k % 8]
 }
 
 impl Kind<'_> {
     // Is that the job's name.
-    pub fn is_named(self, name: &Name) -> bool
-        ensures { result ≡ same (name_of name.now) (name_from_lem self.entry.words.now) }
+    pub fn is_named<N: Spelled>(self, name: &N) -> bool
+        ensures { result ≡ same (N.Spelled.spelled name.now) (name_from_lem self.entry.words.now) }
     {
-        if u64::from(name.len) != self.words[14].min(64) {
+        if name.len() as u64 != self.words[14].min(64) {
             return false;
         }
-        (0..name.len).all(|k| byte_at(&name.words, k) == byte_at(&self.words[15..], k))
+        // A loop: of a closure in generic code the check says nothing, so `all` did not close.
+        for k in 0..name.len() {
+            if name.byte(k) != byte_at(&self.words[15..23], k) {
+                return false;
+            }
+        }
+        true
     }
 
     // The job's name.

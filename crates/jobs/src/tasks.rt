@@ -7,6 +7,7 @@ ghost use Rattle.jobs.specs.Values.{spec_of, phase_of, machine_of, life_of, mark
 ghost use Rattle.jobs.specs.Changes.{end_each, place_each, mark_each};
 
 use crate::ids::{Life, MachineId, TaskId};
+use crate::kinds::machine_number;
 use crate::layout::*;
 use crate::phase::{Mark, Phase, Place};
 use crate::rows::{TASKS, TaskRow};
@@ -68,7 +69,7 @@ impl TaskRow<'_> {
     pub fn machine(self) -> MachineId
         ensures { result.0 ≡ at self.entry.words.now 2 % 65536 }
     {
-        MachineId((self.words[2] % 65536) as u16)
+        machine_number(self.words[2])
     }
 
     // Whether it waits, is on its machine, or is ending there.

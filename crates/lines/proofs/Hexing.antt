@@ -1,6 +1,6 @@
 -- Bytes in hexadecimal, written byte by byte, and read back.
 -- Assumes nothing.
-use Rattle.std.proofs.Common.{◌≡◌, ℕ, ◌+◌, ◌*◌, ◌/◌, ◌%◌, ◌<◌, ◌≤◌, [], ◌∷◌, ◌++◌, length, get_or, take, set, sym, refl, ap, ◌∙◌, append_assoc, append-nil, arith, length-set}
+use Rattle.std.proofs.Common.{◌≡◌, ℕ, ◌+◌, ◌*◌, ◌/◌, ◌%◌, ◌<◌, [], ◌∷◌, ◌++◌, length, get_or, take, set, sym, refl, ap, ◌∙◌, append_assoc, append-nil, arith, length-set}
 use Rattle.std.specs.Char.{digit_value, digit_char}
 use Rattle.std.specs.Int.Digits.{AllBelowBase}
 use Rattle.std.proofs.lemmas.List.{take_more, take_more_set}
@@ -40,18 +40,3 @@ pub hex_more : (bytes text front : Bytes) (i : ℕ) → i < length bytes → 4 +
 hex_more bytes text front i h l e x y p q =
     let n : 4 + 2 * (i + 1) ≡ 4 + 2 * i + 1 + 1 = omega arith in
     rw (n, take_more bytes i 0 h, hex_text_push (take i bytes) (get_or bytes i 0), ← p, ← q) (two_more text (4 + 2 * i) x y l ∙ ap (λ (t : Text). t ++ (x ∷ y ∷ [])) e ∙ append_assoc front (hex_text (take i bytes)) (x ∷ y ∷ []))
-
--- the first four characters
-pub four_set : (t : Text) (a b c d : ℕ) → 5 ≤ length t → take 4 (set (set (set (set t 0 a) 1 b) 2 c) 3 d) ≡ a ∷ b ∷ c ∷ d ∷ []
-four_set [] a b c d h = absurd (omega arith)
-four_set (u ∷ []) a b c d h = absurd (omega arith)
-four_set (u ∷ v ∷ []) a b c d h = absurd (omega arith)
-four_set (u ∷ v ∷ w ∷ []) a b c d h = absurd (omega arith)
-four_set (u ∷ v ∷ w ∷ x ∷ t) a b c d h = refl
-
--- the last one
-pub end_set : (t front : Text) (n x : ℕ) → n < length t → take n t ≡ front → take (n + 1) (set t n x) ≡ front ++ (x ∷ [])
-end_set t front n x h e = take_more_set t n x h ∙ ap (λ (u : Text). u ++ (x ∷ [])) e
-
-pub four_length : (t : Text) (a b c d : ℕ) → length (set (set (set (set t 0 a) 1 b) 2 c) 3 d) ≡ length t
-four_length t a b c d = simp length-set

@@ -1,6 +1,6 @@
 -- Tasks listed from their rows, one by one.
 -- Assumes nothing.
-use Rattle.std.proofs.Common.{◌≡◌, ℕ, zero, suc, ◌+◌, ◌%◌, ◌≤◌, Bool, true, false, cond, not, ◌&&◌, eqb, List, [], ◌∷◌, ◌++◌, length, drop, sym, refl, ap, ◌∙◌, subst, inl, inr, append_assoc, append-nil, arith}
+use Rattle.std.proofs.Common.{◌≡◌, ℕ, zero, suc, ◌+◌, ◌%◌, ◌≤◌, Bool, false, cond, not, ◌&&◌, eqb, List, [], ◌∷◌, ◌++◌, length, drop, sym, refl, ap, ◌∙◌, subst, inl, inr, append_assoc, append-nil, arith}
 use Rattle.std.proofs.lemmas.List.{length-append}
 use Rattle.std.proofs.lemmas.Bool.{cases_Bool, ne_eqb}
 use Rattle.model.specs.Lists.{keep, same}
@@ -72,31 +72,22 @@ slot_is which row ready b e = elim (cases_Bool (eqb (at row 0) 0)) [ inl t ↦ r
 slot_by : (b c : Bool) (t : Task) (ts : List Task) → ts ≡ cond b (t ∷ []) [] → c ≡ b → ts ≡ cond c (t ∷ []) []
 slot_by b c t ts e f = e ∙ ap (λ (x : Bool). cond x (t ∷ []) []) (sym f)
 
-module _ (row : List ℕ) (k ready : ℕ) where
-  here : keep (runs_on_lem k) (task_slot row ready) ≡ cond (not (eqb (at row 0) 0) && (eqb (at row 1) 1 && eqb k (at row 2 % 65536))) (task_from row ready ∷ []) []
-  here = slot_is (runs_on_lem k) row ready _ (runs_task (task_from row ready) k (at row 1) (at row 2 % 65536) ready refl refl)
+module _ (row : List ℕ) (ready : ℕ) where
+  pub order_lists : (k : ℕ) (b : Bool) → b ≡ (not (eqb (at row 0) 0) && (eqb (at row 1) 1 && eqb k (at row 2 % 65536))) → keep (runs_on_lem k) (task_slot row ready) ≡ cond b (task_from row ready ∷ []) []
+  order_lists k b e = slot_by _ b _ _ (slot_is (runs_on_lem k) row ready _ (runs_task (task_from row ready) k (at row 1) (at row 2 % 65536) ready refl refl)) e
 
-  pub order_out : (a : Bytes) (n c : ℕ) → false ≡ (not (eqb (at row 0) 0) && (eqb (at row 1) 1 && eqb k (at row 2 % 65536))) → Lists (runs_on_lem k) order_of (task_slot row ready) a a n c n c
-  order_out a n c e = lists_nothing (runs_on_lem k) order_of _ a n c (slot_by _ false _ _ here e)
-
-  pub order_in_lem : {a b d : Bytes} {n m l : ℕ} (c : ℕ) (spec : Spec) → true ≡ (not (eqb (at row 0) 0) && (eqb (at row 1) 1 && eqb k (at row 2 % 65536))) → spec ≡ spec_from_lem (drop 4 row) → Puts (bytes_of 8 (at row 0)) a b n m → Puts (spec_bytes spec) b d m l →
-      Lists (runs_on_lem k) order_of (task_slot row ready) a d n c l (c + 1)
-  order_in_lem c spec e s p q = lists_one (runs_on_lem k) order_of c (slot_by _ true _ _ here e) (puts_then p (puts_as (ap spec_bytes s) q))
+  pub order_put : {a b d : Bytes} {n m l : ℕ} (spec : Spec) → spec ≡ spec_from_lem (drop 4 row) → Puts (bytes_of 8 (at row 0)) a b n m → Puts (spec_bytes spec) b d m l → Puts (order_of (task_from row ready)) a d n l
+  order_put spec s p q = puts_then p (puts_as (ap spec_bytes s) q)
 
 -- LINES
 
-module _ (row : List ℕ) (name : Name) (ready : ℕ) where
-  its : keep (of_job name) (task_slot row ready) ≡ cond (not (eqb (at row 0) 0) && same name (name_from_lem (drop 4 row))) (task_from row ready ∷ []) []
-  its = slot_is (of_job name) row ready _ refl
+module _ (row : List ℕ) (ready : ℕ) where
+  pub line_lists : (name : Name) (b : Bool) → b ≡ (not (eqb (at row 0) 0) && same name (name_from_lem (drop 4 row))) → keep (of_job name) (task_slot row ready) ≡ cond b (task_from row ready ∷ []) []
+  line_lists name b e = slot_by _ b _ _ (slot_is (of_job name) row ready _ refl) e
 
-  pub line_out : (a : Bytes) (n c : ℕ) → false ≡ (not (eqb (at row 0) 0) && same name (name_from_lem (drop 4 row))) → Lists (of_job name) line_of (task_slot row ready) a a n c n c
-  line_out a n c e = lists_nothing (of_job name) line_of _ a n c (slot_by _ false _ _ its e)
-
-  pub line_in : {a b d e f : Bytes} {n m l i j : ℕ} (c v p k : ℕ) → true ≡ (not (eqb (at row 0) 0) && same name (name_from_lem (drop 4 row))) → v ≡ version_from_lem (drop 4 row) → p ≡ phase_of (phase_from_lem (at row 1) ready) → k ≡ cond (eqb (at row 1) 0) 0 (at row 2 % 65536) →
-      Puts (bytes_of 8 (at row 0)) a b n m → Puts (bytes_of 4 v) b d m l → Puts (p ∷ []) d e l i → Puts (bytes_of 2 k) e f i j → Lists (of_job name) line_of (task_slot row ready) a f n c j (c + 1)
-  line_in c v p k t u w x q r y z =
-      lists_one (of_job name) line_of c (slot_by _ true _ _ its t)
-      (puts_then q (puts_then (puts_as (ap (bytes_of 4) u) r) (puts_then (puts_as (ap (λ (s : ℕ). s ∷ []) w) y) (puts_as (ap (bytes_of 2) x) z))))
+  pub line_put : {a b d e f : Bytes} {n m l i j : ℕ} (v p k : ℕ) → v ≡ version_from_lem (drop 4 row) → p ≡ phase_of (phase_from_lem (at row 1) ready) → k ≡ cond (eqb (at row 1) 0) 0 (at row 2 % 65536) →
+      Puts (bytes_of 8 (at row 0)) a b n m → Puts (bytes_of 4 v) b d m l → Puts (p ∷ []) d e l i → Puts (bytes_of 2 k) e f i j → Puts (line_of (task_from row ready)) a f n j
+  line_put v p k u w x q r y z = puts_then q (puts_then (puts_as (ap (bytes_of 4) u) r) (puts_then (puts_as (ap (λ (s : ℕ). s ∷ []) w) y) (puts_as (ap (bytes_of 2) x) z)))
 
 -- THE LISTS OF THE MODEL
 

@@ -1,13 +1,13 @@
 -- Reading a text character by character.
 -- Assumes nothing.
-use Rattle.std.proofs.Common.{◌≡◌, ℕ, ◌+◌, ◌*◌, ◌<◌, ◌≤◌, Bool, true, false, cond, eqb, ltb, List, [], ◌∷◌, ◌++◌, Some, None, Option, unwrap_or, sym, refl, arith}
+use Rattle.std.proofs.Common.{◌≡◌, ℕ, ◌+◌, ◌*◌, ◌<◌, ◌≤◌, false, ltb, [], ◌∷◌, ◌++◌, Some, None, Option, unwrap_or, refl, arith}
 use Rattle.std.specs.Char.{digit_value}
-use Rattle.std.proofs.lemmas.Bool.{lt-ltb, le-ltb, ne_eqb}
+use Rattle.std.proofs.lemmas.Bool.{lt-ltb, le-ltb}
 use Rattle.model.specs.Wire.{Bytes, Read, garbled, meant}
 use Rattle.lines.specs.declared.stage.Stage.{Stage}
 use Rattle.lines.specs.declared.stage.Stage.TheVariants.{Start, I, In, T, Ti, Tim, Time, High, Low, Clock, Bad}
 use Rattle.lines.specs.Resume.{number_in, resume}
-use Rattle.lines.specs.Text.{Text, first, second, behind, hex_on, so_far, longer, decimal_on, time_line_lem, line_by, line_on}
+use Rattle.lines.specs.Text.{Text, first, second, hex_on, so_far, longer, decimal_on, time_line_lem}
 
 -- a test of a digit that fails
 no_digit : (n k : ℕ) → (n < k → ⊥) → ltb n k ≡ false
@@ -44,14 +44,6 @@ decimal_full r c ts h k = rw (lt-ltb (digit_value c) 10 h, le-ltb (longer r c) 1
 pub so_far_lem : (o : Option ℕ) → so_far (number_in o) ≡ unwrap_or o 0
 so_far_lem None = refl
 so_far_lem (Some n) = refl
-
--- the first letter, where it is no `i`
-pub begins : (c : ℕ) (bs ts : List ℕ) → (c ≡ 105 → ⊥) → (s : Stage) → s ≡ cond (eqb 116 c) T Bad → resume s bs ts ≡ line_on bs (c ∷ ts)
-begins c bs ts f s e = rw (e, ne_eqb 105 c (λ (p : 105 ≡ c). f (sym p))) (pick (eqb 116 c))
-  where
-    pick : (b : Bool) → resume (cond b T Bad) bs ts ≡ line_by bs garbled (cond b (behind (105 ∷ 109 ∷ 101 ∷ 32 ∷ []) ts) garbled)
-    pick true = refl
-    pick false = refl
 
 -- a text that ends in the midst of a word or of a byte has said nothing
 pub ends_rest : (s : Stage) → (s ≡ High → ⊥) → ((o : Option ℕ) → s ≡ Clock o → ⊥) → (bs : Bytes) → resume s bs [] ≡ []

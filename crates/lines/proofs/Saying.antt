@@ -7,15 +7,7 @@ use Rattle.model.specs.Calls.{Call, SetJob, EndJob, AddMachine, Close, Reopen, F
 use Rattle.model.specs.Promise.{Answers, says_so, not_yet}
 use Rattle.model.specs.Wire.{Bytes, Read, garbled, meant, read_name, read_report_lem, read_tick, read_kind_lem, read_call, kind_of, answer_to}
 use Rattle.model.proofs.Lists.Tests.{to_true, from_true}
-use Rattle.model.specs.Lines.{kind_in, is_known, Said, refuses, call_says, LinesSaySo, NoCallNoChange}
-
-pub no_call_no_change_lem : NoCallNoChange
-no_call_no_change_lem built bs s e = pick (is_known (kind_in bs) && not (built (kind_in bs))) (eqb s.now 0 && not (eqb (kind_in bs) 8))
-  where
-    pick : (a b : Bool) → (cond a (refuses 12 s) (cond b (refuses 10 s) (call_says (read_call bs) s))).state ≡ s
-    pick true b = refl
-    pick false true = refl
-    pick false false = rw e
+use Rattle.model.specs.Lines.{kind_in, is_known, Said, refuses, call_says, LinesSaySo}
 
 -- the first byte is the kind of the call that is read
 

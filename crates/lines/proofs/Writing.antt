@@ -1,9 +1,9 @@
 -- Bytes written one behind the other.
 -- Assumes nothing.
-use Rattle.std.proofs.Common.{◌≡◌, ℕ, ◌+◌, ◌-◌, ◌*◌, ◌<◌, ◌≤◌, Bool, true, false, List, [], ◌∷◌, ◌++◌, length, get_or, take, drop, set, sym, refl, ap, ◌∙◌, subst, append_assoc, append-nil, arith, length-set}
+use Rattle.std.proofs.Common.{◌≡◌, ℕ, ◌+◌, ◌-◌, ◌*◌, ◌<◌, ◌≤◌, Bool, true, false, List, [], ◌∷◌, ◌++◌, length, get_or, take, drop, sym, refl, ap, ◌∙◌, subst, append_assoc, append-nil, arith}
 use borrow.Rule.Slice.PartMut.{mid_of, put_mid}
 use mir.Val.{bool_byte}
-use Rattle.std.proofs.lemmas.List.{same_lists, places, drop_at, drop-set-lt, drop-take, take_at, take_more, take_more_set, length-append, length-drop, length-take-le}
+use Rattle.std.proofs.lemmas.List.{same_lists, places, drop_at, drop-take, take_at, take_more, length-append, length-drop, length-take-le}
 use Rattle.model.specs.Wire.{Bytes, bytes_of, flag_of, tag_bytes, spec_bytes}
 use Rattle.model.specs.Lines.{framed}
 use Rattle.octets.proofs.Numbers.{length_bytes_of}
@@ -47,9 +47,6 @@ puts_then {xs} {ys} {a} {b} {c} {i} {j} {k} p q = record {
 pub puts_as : {xs ys a b : Bytes} {i j : ℕ} → xs ≡ ys → Puts xs a b i j → Puts ys a b i j
 puts_as {xs} {ys} {a} {b} {i} {j} e p = subst (λ (t : Bytes). Puts t a b i j) e p
 
-pub puts_byte : (n at : ℕ) (out : Bytes) → at + 1 ≤ length out → Puts (n ∷ []) out (set out at n) at (at + 1)
-puts_byte n at out h = record { bytes = take_more_set out at n (omega arith); end = refl; rest = drop-set-lt (at + 1) out at n (omega arith); long = length-set out at n }
-
 -- what stands in front is written afterwards, into the place that was left for it
 pub puts_back : {xs ys a b c : Bytes} {i j k : ℕ} → j ≤ length a → Puts ys a b j k → Puts xs b c i j → Puts (xs ++ ys) a c i k
 puts_back {xs} {ys} {a} {b} {c} {i} {j} {k} h p q = record {
@@ -78,12 +75,11 @@ puts_part w at out ys h e =
       long = simp (length-append, length-drop) (omega (arith, e, f));
     }
 
-pub puts_number : (w n at : ℕ) (out ys : Bytes) → at + w ≤ length out → ys ≡ bytes_of (length (take (at + w - at) (drop at out))) n → Puts (bytes_of w n) out (put_mid at (at + w - at) out ys) at (at + w)
-puts_number w n at out ys h e =
-    let k : at + w - at ≡ w = omega arith in
-    let l : length (take (at + w - at) (drop at out)) ≡ w = rw k (row_length w at out h) in
-    let f : ys ≡ bytes_of w n = e ∙ ap (λ (x : ℕ). bytes_of x n) l in
-    puts_as f (puts_part w at out ys h (ap length f ∙ length_bytes_of w n))
+pub puts_number : (w n at : ℕ) (out ys : Bytes) (end m : ℕ) → at + w ≤ length out → end ≡ at + w → m ≡ n → ys ≡ bytes_of (length (take (end - at) (drop at out))) m → Puts (bytes_of w n) out (put_mid at (end - at) out ys) at end
+puts_number w n at out ys end m h e k f =
+    let l : length (take (end - at) (drop at out)) ≡ w = let d : end - at ≡ w = omega (arith, e) in rw d (row_length w at out h) in
+    let g : ys ≡ bytes_of w n = f ∙ (λ i. bytes_of (l i) (k i)) in
+    rw e (puts_as g (puts_part w at out ys h (ap length g ∙ length_bytes_of w n)))
 
 -- TAGS
 

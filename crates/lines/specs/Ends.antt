@@ -1,6 +1,6 @@
 -- What a text that ends has said.
 -- Assumes nothing.
-use Rattle.std.specs.Prelude.{◌≡◌, []}
+use Rattle.std.specs.Prelude.{◌≡◌, [], Some, None, Option}
 use Rattle.model.specs.Wire.{Bytes, meant}
 use Rattle.lines.specs.declared.stage.Stage.{Stage}
 use Rattle.lines.specs.declared.reader.End.{End}
@@ -9,7 +9,7 @@ use Rattle.lines.specs.Resume.{resume}
 use Rattle.lines.specs.Text.{time_line_lem}
 
 -- by what the rest of the text, which is empty, makes of the bytes so far
-abbrev pub Ends : Stage → End → Type 0
-Ends s end.Bytes = (bs : Bytes) → resume s bs [] ≡ bs
-Ends s (end.Time t) = (bs : Bytes) → resume s bs [] ≡ time_line_lem (meant t)
-Ends s end.Nothing = (bs : Bytes) → resume s bs [] ≡ []
+abbrev pub Ends : Stage → Option End → Type 0
+Ends s (Some end.Bytes) = (bs : Bytes) → resume s bs [] ≡ bs
+Ends s (Some (end.Time t)) = (bs : Bytes) → resume s bs [] ≡ time_line_lem (meant t)
+Ends s None = (bs : Bytes) → resume s bs [] ≡ []

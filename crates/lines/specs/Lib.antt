@@ -1,11 +1,11 @@
 pub mod Held
-pub mod Refusal
 pub mod Code
 pub mod Shown
 pub mod Text
 pub mod Resume
 pub mod Digits
 pub mod Ends
+pub mod Kinds
 pub mod Reads
 pub mod Puts
 pub mod Replied

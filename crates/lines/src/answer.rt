@@ -5,27 +5,13 @@ ghost use Rattle.model.specs.Wire.{Refused, answer_bytes};
 ghost use Rattle.model.specs.Lines.{answer_line, framed, herd_on_lines, is_known, no_kind};
 ghost use Rattle.model.specs.Memory.{done};
 ghost use Rattle.model.specs.Right.{RightBy, RunsRight};
+ghost use Rattle.calls.specs.Answers.{number_of};
 ghost use Rattle.lines.specs.Code.{Awake, Tells, code};
 ghost use Rattle.lines.specs.Held.{Holds};
-ghost use Rattle.lines.specs.Refusal.{number_of};
 
+use crate::kind::Kind;
 use crate::line::Line;
-
-// Why a call is turned away, as far as calls are built.
-#[derive(Clone, Copy)]
-pub enum Refusal {
-    NoTime = 10,
-    NotBuilt = 12,
-}
-
-impl Refusal {
-    // The number that the answer bears.
-    pub fn number(self) -> u8
-        ensures { result ≡ number_of self }
-    {
-        self as u8
-    }
-}
+use calls::answer::Refusal;
 
 // A refusal in its frame.
 fn refused(tag: u32, why: Refusal) -> [u8; 10]
@@ -39,9 +25,9 @@ fn refused(tag: u32, why: Refusal) -> [u8; 10]
 fn reason(kind: u8) -> Refusal
     ensures { number_of result ≡ (if is_known kind then 12 else 10) }
 {
-    match kind {
-        1..=9 => Refusal::NotBuilt,
-        _ => Refusal::NoTime,
+    match Kind::of(kind) {
+        Some(_) => Refusal::NotBuilt,
+        None => Refusal::NoTime,
     }
 }
 

@@ -31,10 +31,7 @@ pub fn say(answer: &[u8], text: &mut [u8]) -> Option<usize>
         return None;
     }
     let end = 4 + 2 * answer.len();
-    text[0] = b'o';
-    text[1] = b'u';
-    text[2] = b't';
-    text[3] = b' ';
+    text[..4].copy_from_slice(b"out ");
     digits(answer, text);
     text[end] = b'\n';
     Some(end + 1)

@@ -3,10 +3,11 @@
 
 pub mod answer;
 pub mod hex;
+pub mod input;
+pub mod kind;
 pub mod line;
 pub mod list;
 pub mod listing;
-pub mod named;
 pub mod read;
 pub mod reader;
 pub mod reply;

@@ -9,6 +9,7 @@ use octets::number::value;
 // The longest line that may be done: a frame with a report of 2,048 tasks.
 pub const ROOM: usize = 18_461;
 
+// Fixed memory and no heap, by a rule of the project.
 #[derive(Drop)]
 pub struct Line {
     bytes: [u8; ROOM],
@@ -69,12 +70,7 @@ impl Line {
         if self.count < 8 || value(&self.bytes[0..4]) + 4 != self.count {
             return &self.bytes[0..0];
         }
-        let held = if self.count < ROOM as u64 {
-            self.count as usize
-        } else {
-            ROOM
-        };
-        &self.bytes[8..held]
+        &self.bytes[8..self.count.min(ROOM as u64) as usize]
     }
 
     // Is the line longer than is held: then no call in it can be done.
@@ -88,7 +84,9 @@ impl Line {
     pub fn kind(&self) -> u8
         ensures { (line : List ℕ) → Holds self.now.bytes self.now.count line → result ≡ kind_in (call_in line) }
     {
-        let call = self.call();
-        if call.len() > 0 { call[0] } else { 0 }
+        match self.call() {
+            [kind, ..] => *kind,
+            [] => 0,
+        }
     }
 }

@@ -1,16 +1,18 @@
 // The two lists of tasks that answers have: what is to run on a machine, and what a job's tasks are.
-ghost use Rattle.std.specs.Prelude.{◌≡◌, ◌%◌, not, ◌&&◌, length, ◌==◌};
+ghost use Rattle.std.specs.Prelude.{◌≡◌, ◌%◌, not, ◌&&◌, length, drop, ◌==◌};
+ghost use Rattle.model.specs.Lists.{same};
 ghost use Rattle.model.specs.State.{of_job};
 ghost use Rattle.model.specs.Wire as w;
 ghost use Rattle.jobs.specs.Rows.{at};
+ghost use Rattle.jobs.specs.Tables.{name_from_lem};
 ghost use Rattle.jobs.specs.Values.{machine_of, phase_of};
 ghost use Rattle.lines.specs.Listings.{line_of, order_of, runs_on_lem};
 
-use crate::listing::{Listed, Listing};
-use crate::named::is_of;
-use crate::write::{put_spec, put_u8, put_u16, put_u32, put_u64};
+use crate::listing::Listing;
+use crate::write::{put_number, put_spec, put_u8};
 use jobs::ids::MachineId;
 use jobs::kinds::{spec_from, version_from};
+use jobs::naming::is_named;
 use jobs::phase::Phase;
 use jobs::rows::task_kind;
 use jobs::tasks::phase_from;
@@ -36,17 +38,22 @@ impl Listing for RunsOn {
 
     ghost each = { λ _. order_of };
 
-    fn put_row(&self, out: &mut [u8], done: Listed, row: &[u64], _ready: u64) -> Listed {
-        if !runs_on(row, self.0) {
-            return done;
-        }
-        let end = put_u64(out, done.end, row[0]);
-        let end = put_spec(out, end, &spec_from(task_kind(row)));
-        Listed {
-            end,
-            count: done.count + 1,
-        }
+    fn lists(&self, row: &[u64]) -> bool {
+        runs_on(row, self.0)
     }
+
+    fn put_task(&self, out: &mut [u8], at: usize, row: &[u64], _ready: u64) -> usize {
+        let end = put_number(out, at, row[0]);
+        put_spec(out, end, &spec_from(task_kind(row)))
+    }
+}
+
+// Is there a task of the job of that name in a row.
+pub fn is_of(row: &[u64], name: &[u8]) -> bool
+    requires { length row.now ≡ 27 }
+    ensures { result ≡ (not (at row.now 0 == 0) && same name.now (name_from_lem (drop 4 row.now))) }
+{
+    row[0] != 0 && is_named(task_kind(row), &name)
 }
 
 // The number that the bytes have for a phase.
@@ -67,9 +74,7 @@ fn machine_number(phase: Phase) -> u16
 {
     match phase {
         Phase::Waiting => 0,
-        Phase::Told(place) => place.machine.0,
-        Phase::Ready(place) => place.machine.0,
-        Phase::Ending(place) => place.machine.0,
+        Phase::Told(place) | Phase::Ready(place) | Phase::Ending(place) => place.machine.0,
     }
 }
 
@@ -78,18 +83,15 @@ impl<'a> Listing for OfJob<'a> {
 
     ghost each = { λ _. line_of };
 
-    fn put_row(&self, out: &mut [u8], done: Listed, row: &[u64], ready: u64) -> Listed {
-        if !is_of(row, self.0) {
-            return done;
-        }
+    fn lists(&self, row: &[u64]) -> bool {
+        is_of(row, self.0)
+    }
+
+    fn put_task(&self, out: &mut [u8], at: usize, row: &[u64], ready: u64) -> usize {
         let phase = phase_from(row, ready);
-        let end = put_u64(out, done.end, row[0]);
-        let end = put_u32(out, end, version_from(task_kind(row)).0);
+        let end = put_number(out, at, row[0]);
+        let end = put_number(out, end, version_from(task_kind(row)).0);
         let end = put_u8(out, end, phase_number(phase));
-        let end = put_u16(out, end, machine_number(phase));
-        Listed {
-            end,
-            count: done.count + 1,
-        }
+        put_number(out, end, machine_number(phase))
     }
 }

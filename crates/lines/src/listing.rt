@@ -1,14 +1,14 @@
 // Tasks listed in an answer, each from its row, behind their number.
-ghost use Rattle.std.specs.Prelude.{◌≡◌, ◌+◌, ◌<◌, ◌≤◌, Bool, ◌++◌, length};
+ghost use Rattle.std.specs.Prelude.{◌≡◌, ℕ, ◌+◌, ◌<◌, ◌≤◌, Bool, if◌then◌else◌, [], ◌∷◌, ◌++◌, length};
 ghost use Rattle.model.specs.Lists.{keep};
 ghost use Rattle.model.specs.State.{Task};
 ghost use Rattle.model.specs.Wire.{Bytes, bytes_of};
 ghost use Rattle.jobs.specs.Layout.{home_words_lem, live_words};
-ghost use Rattle.jobs.specs.Tables.{task_slot, tasks_of};
+ghost use Rattle.jobs.specs.Tables.{task_from, task_slot, tasks_of};
 ghost use Rattle.lines.specs.Listings.{Lists, each_bytes};
 ghost use Rattle.lines.specs.Puts.{Puts};
 
-use crate::write::put_u16;
+use crate::write::put_number;
 use jobs::layout::READY_BASE;
 use jobs::rows::{task_row, task_rows};
 
@@ -25,17 +25,44 @@ pub trait Listing {
 
     ghost each: { Self → Task → Bytes };
 
-    // The task in a row, if it is one of them.
-    fn put_row(&self, out: &mut [u8], done: Listed, row: &[u64], ready: u64) -> Listed
+    // Is there one of them in a row.
+    fn lists(&self, row: &[u64]) -> bool
+        requires { length row.now ≡ 27 }
+        ensures { (ready : ℕ) → keep (which self.now) (task_slot row.now ready) ≡ (if result then task_from row.now ready ∷ [] else []) };
+
+    // The bytes of the task in a row.
+    fn put_task(&self, out: &mut [u8], at: usize, row: &[u64], ready: u64) -> usize
         requires row { length row.now ≡ 27 }
-        requires room { done.end + 54 ≤ length out.old }
-        requires few { done.count < 65535 }
-        ensures lists { Lists (which self.now) (each self.now) (task_slot row.now ready) out.old out.new done.end done.count result.end result.count }
-        ensures room { result.end ≤ done.end + 54 }
-        ensures few { result.count ≤ done.count + 1 };
+        requires room { at + 54 ≤ length out.old }
+        ensures bytes { Puts (each self.now (task_from row.now ready)) out.old out.new at result }
+        ensures room { result ≤ at + 54 };
 }
 
-// All of them.
+// The task in a row, if it is one of them.
+pub fn put_row<L: Listing>(
+    listing: &L,
+    out: &mut [u8],
+    done: Listed,
+    row: &[u64],
+    ready: u64,
+) -> Listed
+    requires row { length row.now ≡ 27 }
+    requires room { done.end + 54 ≤ length out.old }
+    requires few { done.count < 65535 }
+    ensures lists { Lists (L.Listing.which listing.now) (L.Listing.each listing.now) (task_slot row.now ready) out.old out.new done.end done.count result.end result.count }
+    ensures room { result.end ≤ done.end + 54 }
+    ensures few { result.count ≤ done.count + 1 }
+{
+    if !listing.lists(row) {
+        return done;
+    }
+    Listed {
+        end: listing.put_task(out, done.end, row, ready),
+        count: done.count + 1,
+    }
+}
+
+// All of them. Rows go by number, since one number finds a row in `home` and its flag in `live`, lent as words by a rule of the project.
 fn put_rows<L: Listing>(
     listing: &L,
     out: &mut [u8],
@@ -51,7 +78,13 @@ fn put_rows<L: Listing>(
 {
     let mut listed = Listed { end: at, count: 0 };
     for i in 0..task_rows(home) {
-        listed = listing.put_row(out, listed, task_row(home, i), live[READY_BASE + i]);
+        listed = put_row(
+            listing,
+            out,
+            listed,
+            task_row(home, i),
+            live[READY_BASE + i],
+        );
     }
     listed
 }
@@ -71,6 +104,6 @@ pub fn put_list<L: Listing>(
     ensures room { result ≤ at + 110594 }
 {
     let listed = put_rows(listing, out, at + 2, home, live);
-    let _ = put_u16(out, at, listed.count);
+    let _ = put_number(out, at, listed.count);
     listed.end
 }

@@ -1,10 +1,11 @@
 // Calls from bytes.
 ghost use Rattle.std.specs.Prelude.{◌≡◌, ◌+◌, ◌*◌, ◌/◌, ◌≤◌, length};
-ghost use Rattle.model.specs.Wire.{flags_in, read_add_lem, read_call, read_kind_lem, read_machine, read_name, read_report_lem, read_set_lem, read_tick, spec_in_lem};
-ghost use Rattle.model.specs.Calls.{Close, EndJob, Forget, Reopen, Show};
+ghost use Rattle.model.specs.Wire.{flags_in, read_add_lem, read_call, read_kind_lem, read_report_lem, read_set_lem, read_tick, spec_in_lem};
 ghost use Rattle.calls.specs.Meaning.{like_of};
+ghost use Rattle.lines.specs.Kinds.{byte_of};
 ghost use Rattle.lines.specs.Reads.{Named, Numbered, ReadAs};
 
+use crate::kind::Kind;
 use calls::call::{Added, Call, Likeness, Reported, Wanted};
 use jobs::ids::{Life, MachineId, ReportNumber};
 use octets::field::number_at;
@@ -13,10 +14,10 @@ use octets::field::number_at;
 fn named(rest: &[u8]) -> Option<&[u8]>
     ensures { Named rest.now result }
 {
-    if rest.len() == 0 || rest.len() - 1 != rest[0] as usize {
-        return None;
+    match rest {
+        [len, name @ ..] if name.len() == *len as usize => Some(name),
+        _ => None,
     }
-    Some(&rest[1..])
 }
 
 fn numbered(rest: &[u8]) -> Option<MachineId>
@@ -26,51 +27,6 @@ fn numbered(rest: &[u8]) -> Option<MachineId>
         return None;
     }
     Some(MachineId(number_at(rest, 0)))
-}
-
-fn read_end(rest: &[u8]) -> Option<Call<'_>>
-    ensures { ReadAs (read_name EndJob rest.now) result }
-{
-    let Some(name) = named(rest) else {
-        return None;
-    };
-    Some(Call::End(name))
-}
-
-fn read_show(rest: &[u8]) -> Option<Call<'_>>
-    ensures { ReadAs (read_name Show rest.now) result }
-{
-    let Some(name) = named(rest) else {
-        return None;
-    };
-    Some(Call::Show(name))
-}
-
-fn read_close(rest: &[u8]) -> Option<Call<'_>>
-    ensures { ReadAs (read_machine Close rest.now) result }
-{
-    let Some(machine) = numbered(rest) else {
-        return None;
-    };
-    Some(Call::Close(machine))
-}
-
-fn read_reopen(rest: &[u8]) -> Option<Call<'_>>
-    ensures { ReadAs (read_machine Reopen rest.now) result }
-{
-    let Some(machine) = numbered(rest) else {
-        return None;
-    };
-    Some(Call::Reopen(machine))
-}
-
-fn read_forget(rest: &[u8]) -> Option<Call<'_>>
-    ensures { ReadAs (read_machine Forget rest.now) result }
-{
-    let Some(machine) = numbered(rest) else {
-        return None;
-    };
-    Some(Call::Forget(machine))
 }
 
 fn read_time(rest: &[u8]) -> Option<Call<'_>>
@@ -100,12 +56,7 @@ fn read_add(rest: &[u8]) -> Option<Call<'_>>
 fn flags(tasks: &[u8]) -> bool
     ensures { result ≡ flags_in (length tasks.now / 9) tasks.now }
 {
-    for i in 0..tasks.len() / 9 {
-        if tasks[9 * i + 8] > 1 {
-            return false;
-        }
-    }
-    true
+    tasks.chunks_exact(9).all(|task| task[8] <= 1)
 }
 
 fn read_report(rest: &[u8]) -> Option<Call<'_>>
@@ -164,21 +115,20 @@ fn read_set(rest: &[u8]) -> Option<Call<'_>>
     }))
 }
 
-// By the first byte, the kind of the call.
-fn read_kind(kind: u8, rest: &[u8]) -> Option<Call<'_>>
-    ensures { ReadAs (read_kind_lem kind rest.now) result }
+// What stands behind the first byte, by the kind that this byte says.
+fn read_kind(kind: Kind, rest: &[u8]) -> Option<Call<'_>>
+    ensures { ReadAs (read_kind_lem (byte_of kind) rest.now) result }
 {
     match kind {
-        1 => read_set(rest),
-        2 => read_end(rest),
-        3 => read_add(rest),
-        4 => read_close(rest),
-        5 => read_reopen(rest),
-        6 => read_forget(rest),
-        7 => read_report(rest),
-        8 => read_time(rest),
-        9 => read_show(rest),
-        _ => None,
+        Kind::Set => read_set(rest),
+        Kind::End => Some(Call::End(named(rest)?)),
+        Kind::Add => read_add(rest),
+        Kind::Close => Some(Call::Close(numbered(rest)?)),
+        Kind::Reopen => Some(Call::Reopen(numbered(rest)?)),
+        Kind::Forget => Some(Call::Forget(numbered(rest)?)),
+        Kind::Report => read_report(rest),
+        Kind::Time => read_time(rest),
+        Kind::Show => Some(Call::Show(named(rest)?)),
     }
 }
 
@@ -186,8 +136,8 @@ fn read_kind(kind: u8, rest: &[u8]) -> Option<Call<'_>>
 pub fn read(bytes: &[u8]) -> Option<Call<'_>>
     ensures { ReadAs (read_call bytes.now) result }
 {
-    if bytes.len() == 0 {
-        return None;
+    match bytes {
+        [kind, rest @ ..] => read_kind(Kind::of(*kind)?, rest),
+        [] => None,
     }
-    read_kind(bytes[0], &bytes[1..])
 }

@@ -16,24 +16,21 @@ pub struct Reader {
     stage: Stage,
 }
 
-// What a text that ends here has said: the bytes that were read, a time, or nothing.
+// What a text has said: the bytes that were read, or a time.
 #[derive(Clone, Copy)]
 enum End {
     Bytes,
     Time(u64),
-    Nothing,
 }
 
-fn ending(stage: Stage) -> End
+// What a text that ends here has said; none where that is nothing.
+fn ending(stage: Stage) -> Option<End>
     ensures { Ends stage result }
 {
     match stage {
-        Stage::High => End::Bytes,
-        Stage::Clock(time) => match time {
-            Some(time) => End::Time(time),
-            None => End::Nothing,
-        },
-        _ => End::Nothing,
+        Stage::High => Some(End::Bytes),
+        Stage::Clock(time) => time.map(End::Time),
+        _ => None,
     }
 }
 
@@ -79,9 +76,9 @@ impl Reader {
         ensures { (f : List ℕ → List ℕ) → Reads self.old.stage self.old.line.bytes self.old.line.count f → Holds result.now.bytes result.now.count (f []) }
     {
         match ending(self.stage) {
-            End::Bytes => {}
-            End::Time(time) => self.line.set(&time_line(time)),
-            End::Nothing => self.line.clear(),
+            Some(End::Bytes) => {}
+            Some(End::Time(time)) => self.line.set(&time_line(time)),
+            None => self.line.clear(),
         }
         &self.line
     }

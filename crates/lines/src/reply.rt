@@ -13,12 +13,13 @@ ghost use Rattle.lines.specs.Replied.{reply_room};
 
 use crate::list::{OfJob, RunsOn};
 use crate::listing::put_list;
-use crate::write::{put_u8, put_u16, put_u32, put_u64};
+use crate::write::{put_number, put_u8};
 use calls::answer::{Answer, RunOn};
 
 // The longest answer: a run of 2,048 tasks with eight tags each, and its frame.
 pub const ROOM: usize = 110_621;
 
+// Fixed memory and no heap, by a rule of the project.
 #[derive(Drop)]
 pub struct Reply {
     bytes: [u8; ROOM],
@@ -52,9 +53,9 @@ fn put_run(out: &mut [u8], at: usize, home: &[u64], live: &[u64], run: RunOn) ->
     ensures room { result ≤ at + 110613 }
 {
     let end = put_u8(out, at, 2);
-    let end = put_u16(out, end, run.machine.0);
-    let end = put_u64(out, end, run.life.0);
-    let end = put_u64(out, end, run.number.0);
+    let end = put_number(out, end, run.machine.0);
+    let end = put_number(out, end, run.life.0);
+    let end = put_number(out, end, run.number.0);
     put_list(&RunsOn(run.machine), out, end, home, live)
 }
 
@@ -97,7 +98,7 @@ pub fn write(reply: &mut Reply, tag: u32, home: &[u64], live: &[u64], answer: &A
     ensures fits { (time : ℕ) → length (framed tag (answer_bytes (answer_of answer.now (state_of home.now live.now time)))) ≤ reply_room }
 {
     let end = put_answer(&mut reply.bytes, 8, home, live, answer);
-    let _ = put_u32(&mut reply.bytes, 4, tag);
-    let _ = put_u32(&mut reply.bytes, 0, (end - 4) as u32);
+    let _ = put_number(&mut reply.bytes, 4, tag);
+    let _ = put_number(&mut reply.bytes, 0, (end - 4) as u32);
     reply.len = end;
 }

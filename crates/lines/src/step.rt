@@ -16,10 +16,8 @@ pub struct Step {
 fn nibble(c: u8) -> Option<Nibble>
     ensures { Digit c result }
 {
-    match (c as char).to_digit(16) {
-        Some(d) => Some(Nibble { value: d as u8 }),
-        None => None,
-    }
+    let digit = (c as char).to_digit(16)?;
+    Some(Nibble { value: digit as u8 })
 }
 
 // The next letter of a word.

@@ -2,20 +2,16 @@
 ghost use Rattle.serving.specs.Bars.{BarredAs};
 
 use calls::answer::Refusal;
+use lines::kind::Kind;
 
 // Why a call of this kind is turned away unread, if it is: it is not built yet, or no time was told.
 pub fn barred(kind: u8, time: u64) -> Option<Refusal>
     ensures { BarredAs kind time result }
 {
-    match kind {
-        2 | 4 | 5 | 6 => Some(Refusal::NotBuilt),
-        8 => None,
-        _ => {
-            if time == 0 {
-                Some(Refusal::NoTime)
-            } else {
-                None
-            }
-        }
+    match Kind::of(kind) {
+        Some(Kind::End | Kind::Close | Kind::Reopen | Kind::Forget) => Some(Refusal::NotBuilt),
+        Some(Kind::Time) => None,
+        _ if time == 0 => Some(Refusal::NoTime),
+        _ => None,
     }
 }

@@ -1,6 +1,6 @@
-use Rattle.std.proofs.Common.{◌≡◌, ℕ, ◌+◌, List, ap, arith}
-use Rattle.jobs.specs.Rows.{at, span}
-use Rattle.jobs.specs.Tables.{task_at, task_rows_lem, task_slot}
+use Rattle.std.proofs.Common.{ℕ, ◌+◌, List, ap, arith}
+use Rattle.jobs.specs.Rows.{at}
+use Rattle.jobs.specs.Tables.{task_at, task_slot}
 use Rattle.lines.proofs.Listings.{lists_start, lists_more, lists_as}
 use Rattle.lines.proofs.listing.put_rows.Goals as goal
 
@@ -13,11 +13,3 @@ loop-i-preserved g c = (
   omega (arith, c.loop-i.invariant.1, c.put_row-listed.ensures.room),
   omega (arith, c.loop-i.invariant.2, c.put_row-listed.ensures.few),
 )
-
-pub returns : goal.returns
-returns g c =
-    let e : c.loop-i.i ≡ task_rows_lem c.args.home.now = omega (arith, c.task_rows-i-end.ensures.is) in
-    record {
-      lists = lists_as _ _ (ap (span (task_at c.args.home.now c.args.live.now) 0) e) c.loop-i.invariant.0;
-      room = omega (arith, c.loop-i.invariant.1, c.task_rows-i-end.ensures.few);
-    }

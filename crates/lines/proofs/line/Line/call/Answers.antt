@@ -1,7 +1,7 @@
-use Rattle.std.proofs.Common.{◌≡◌, ℕ, ◌^◌, ◌<◌, min, List, length, take, arith, rules}
+use Rattle.std.proofs.Common.{◌≡◌, ℕ, ◌^◌, ◌<◌, List, length, take, arith, rules}
 use Rattle.lines.proofs.Holding.{call_short, call_misframed, call_held}
 use Rattle.octets.proofs.Numbers.{length_take_under}
-use Rattle.lines.proofs.line.Line.call.Goals.{then-self, else-self, then-self-lt8-via-then-self-lt8, then-self-lt8-via-else-self-lt8+then-value-self}
+use Rattle.lines.proofs.line.Line.call.Goals.{then-self-lt8-via-then-self-lt8, then-self-lt8-via-else-self-lt8+then-value-self}
 use Rattle.lines.proofs.line.Line.call.Goals as goal
 
 -- four bytes are below 2^32
@@ -19,5 +19,4 @@ returns-then-self-lt8 c = λ line h.
 pub returns : goal.returns
 returns c = λ line h.
     let whole : length c.args.self.now.bytes ≡ 18461 = search rules in
-    let held : c.if-self.held ≡ min c.args.self.now.count 18461 = elim c.if-self.branch [ then-self w ↦ omega (arith, w.held-is, w.if-self.true) | else-self w ↦ omega (arith, w.held-is, w.if-self.false) ] in
-    call_held _ _ line h c.value.result c.if-self.held c.value.ensures.value (four _ _ whole c.value.ensures.bound) c.if-self-lt8.false c.if-value-self.false held
+    call_held _ _ line h c.value.result c.min.result c.value.ensures.value (four _ _ whole c.value.ensures.bound) c.if-self-lt8.false c.if-value-self.false c.min.ensures

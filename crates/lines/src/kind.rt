@@ -1,0 +1,35 @@
+// The kinds of call, by the first byte of a call.
+ghost use Rattle.lines.specs.Kinds.{KindAs};
+
+#[derive(Clone, Copy, Debug, PartialEq, Eq)]
+pub enum Kind {
+    Set = 1,
+    End = 2,
+    Add = 3,
+    Close = 4,
+    Reopen = 5,
+    Forget = 6,
+    Report = 7,
+    Time = 8,
+    Show = 9,
+}
+
+impl Kind {
+    // The kind that this byte says, if it is one.
+    pub fn of(byte: u8) -> Option<Self>
+        ensures { KindAs byte result }
+    {
+        match byte {
+            1 => Some(Kind::Set),
+            2 => Some(Kind::End),
+            3 => Some(Kind::Add),
+            4 => Some(Kind::Close),
+            5 => Some(Kind::Reopen),
+            6 => Some(Kind::Forget),
+            7 => Some(Kind::Report),
+            8 => Some(Kind::Time),
+            9 => Some(Kind::Show),
+            _ => None,
+        }
+    }
+}
