@@ -1,7 +1,7 @@
 -- All rows in turn.
 -- Assumes nothing.
-use Rattle.std.proofs.Common.{◌≡◌, ℕ, ◌+◌, ◌-◌, ◌<◌, ◌≤◌, true, false, List, [], ◌∷◌, ◌++◌, length, sym, refl, ap, ◌∙◌, subst, inl, inr, arith}
-use Rattle.std.proofs.lemmas.Bool.{cases_Bool}
+use Rattle.std.proofs.Common.{◌≡◌, ℕ, ◌+◌, ◌-◌, ◌<◌, ◌≤◌, Bool, true, false, is_some, Some, None, Option, List, [], ◌∷◌, ◌++◌, length, sym, refl, ap, ◌∙◌, subst, inl, inr, arith}
+use Rattle.std.proofs.lemmas.Bool.{cases_Bool, true≢false, false≢true}
 use Rattle.model.specs.Lists.{some, find, same}
 use Rattle.model.specs.State as s
 use Rattle.model.specs.State.{is_job, is_waiting, phased}
@@ -13,12 +13,22 @@ use Rattle.model.proofs.Settles.{Tidy, tidy_step}
 use Rattle.model.proofs.Lists.Chosen.{find_in}
 use Rattle.jobs.specs.Layout.{home_words_lem}
 use Rattle.jobs.specs.Rows.{span}
-use Rattle.jobs.specs.Tables.{task_at, task_rows_lem, tasks_of, job_at, job_rows_lem, jobs_of, state_of, TasksOnly, TaskPut, TasksNow}
+use Rattle.jobs.specs.Tables.{FoundAt, task_at, task_rows_lem, tasks_of, job_at, job_rows_lem, jobs_of, state_of, TasksOnly, TaskPut, TasksNow}
 use Rattle.jobs.specs.Changes.{end_each}
 use Rattle.jobs.proofs.Spans.{span_rest, span_end}
 use Rattle.jobs.proofs.SweepLaws.{Swept, swept_none, swept_more, swept_all, put_same}
 use Rattle.jobs.proofs.Frames.{frame_none, frame_then, job_same, jobs_same}
 use Rattle.settling.specs.Scan.{Numbered, Became}
+
+-- what a search found, where only that was asked
+module _ {X : Type 0} (p : X → Bool) (f : ℕ → List X) (n : ℕ) where
+  pub unfound : (o : Option ℕ) → is_some o ≡ false → FoundAt p f n o → find p (span f 0 n) ≡ []
+  unfound None e w = w
+  unfound (Some i) e w = absurd (true≢false e)
+
+  pub found_one : (o : Option ℕ) → is_some o ≡ true → FoundAt p f n o → (x : X) × (find p (span f 0 n) ≡ x ∷ [])
+  found_one None e w = absurd (false≢true e)
+  found_one (Some i) e w = (w.0, w.3)
 
 -- ORPHANS
 

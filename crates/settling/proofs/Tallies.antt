@@ -44,6 +44,9 @@ module _ (f : ℕ → List s.Task) (i : ℕ) where
     few : (n : ℕ) → n ≡ length (F (span f 0 i)) → length (span f 0 i) ≤ i → n ≤ i
     few n e h = omega (arith, ap length (is (span f 0 i)), length_keep p (span f 0 i))
 
+abbrev pub no_tally : Tally
+no_tally = record { total = 0; all = 0; new = 0; ready = 0; old = record { idle = None; busy = None }; newer = record { idle = None; busy = None } }
+
 module _ (j : s.Job) (st : s.State) where
   is_ready_fact : (ts : List s.Task) → ready_ones (mine j ts) ≡ keep (λ x. is_mine j st x && is_ready_lem x.phase) ts
   is_ready_fact ts = keep_keep _ _ ts
@@ -69,7 +72,7 @@ module _ (j : s.Job) (st : s.State) where
   is_new_idle : (ts : List s.Task) → spares st (new_ones j (alive (mine j ts))) ≡ keep (λ x. is_new j st x && is_spare j st x) ts
   is_new_idle ts = ap (spares st) (is_new_lem ts) ∙ keep_keep _ _ ts
 
-  pub tallied_none : (f : ℕ → List s.Task) → Tallied j st f 0 (record { total = 0; all = 0; new = 0; ready = 0; old = record { idle = None; busy = None }; newer = record { idle = None; busy = None } })
+  pub tallied_none : (f : ℕ → List s.Task) → Tallied j st f 0 no_tally
   unfolding span keep
   tallied_none f = record { total = refl; all = refl; new = refl; ready = refl; old_idle = refl; old_busy = refl; new_idle = refl; new_busy = refl }
 

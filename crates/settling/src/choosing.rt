@@ -34,9 +34,9 @@ fn fits_on(row: &[u64], heard: u64, spec: &Spec, load: Load, time: u64) -> bool
         && heard_lately(heard, time)
         && !(spec.apart && load.mine)
         && spec.cpu <= cpu
-        && load.cpu <= (cpu - spec.cpu) as u64
+        && load.cpu <= u64::from(cpu - spec.cpu)
         && spec.mem <= mem
-        && load.mem <= (mem - spec.mem) as u64
+        && load.mem <= u64::from(mem - spec.mem)
 }
 
 // The better of a choice and one more.

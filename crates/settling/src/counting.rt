@@ -79,8 +79,8 @@ fn step(tally: Tally, home: &[u64], live: &[u64], i: usize, job: &Job, time: u64
     }
     let ready = ready_now(phase);
     let idle = spare(home, live, phase, time);
-    next.ready += ready as usize;
-    if version_from(kind).0 == job.version.0 {
+    next.ready += usize::from(ready);
+    if version_from(kind) == job.version {
         next.new += 1;
         next.newer = pick(tally.newer, i, ready, idle);
     } else {
@@ -95,18 +95,8 @@ pub fn tally_of(home: &[u64], live: &[u64], job: &Job, time: u64) -> Tally
     requires flags { live_words ≤ length live.now }
     ensures { Tallied (job_of job.now) (state_of home.now live.now time) (task_at home.now live.now) (task_rows_lem home.now) result }
 {
-    let none = Picks {
-        idle: None,
-        busy: None,
-    };
-    let mut tally = Tally {
-        total: 0,
-        all: 0,
-        new: 0,
-        ready: 0,
-        old: none,
-        newer: none,
-    };
+    // No fold: a closure's clauses have no place for the bounds on the counts.
+    let mut tally = Tally::default();
     for i in 0..task_rows(home) {
         tally = step(tally, home, live, i, job, time);
     }

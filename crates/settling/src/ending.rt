@@ -8,9 +8,5 @@ use crate::tally::Picks;
 pub fn to_end(p: Picks, enough: bool) -> Option<usize>
     ensures { result ≡ pick_end enough p }
 {
-    match p.idle {
-        Some(i) => Some(i),
-        None if enough => p.busy,
-        None => None,
-    }
+    if enough { p.idle.or(p.busy) } else { p.idle }
 }

@@ -8,6 +8,7 @@ ghost use Rattle.jobs.specs.Values.{job_of};
 ghost use Rattle.settling.specs.Scan.{Tallied};
 
 use crate::tally::Tally;
+use jobs::ids::LAST;
 use jobs::job::Job;
 use jobs::layout::{LAST_ID, MAX_TASKS};
 use jobs::moves::{add_task, compact};
@@ -19,10 +20,10 @@ fn may_grow(home: &[u64], live: &[u64], job: &Job, tally: &Tally, time: u64) -> 
     requires tally { Tallied (job_of job.now) (state_of home.now live.now time) (task_at home.now live.now) (task_rows_lem home.now) tally.now }
     ensures { result ≡ may_grow_lem (job_of job.now) (state_of home.now live.now time) }
 {
-    tally.new < job.count as usize
-        && tally.all < job.most as usize
+    tally.new < usize::from(job.count)
+        && tally.all < usize::from(job.most)
         && tally.total < MAX_TASKS
-        && home[LAST_ID] < 4611686018427387903
+        && home[LAST_ID] < LAST - 1
 }
 
 // Closes the holes where no row is free.

@@ -39,22 +39,16 @@ fn place_row(home: &mut [u64], live: &mut [u64], i: usize, loads: &mut [Load], t
     ensures { PlacedRow i home.old live.old home.new live.new time }
 {
     let row = task_row(home, i);
-    if row[0] == 0 {
-        return;
-    }
-    if row[1] != 0 {
+    if row[0] == 0 || row[1] != 0 {
         return;
     }
     let kind = task_kind(row);
     let name = name_from(kind);
     let spec = spec_from(kind);
     weigh_all(home, &name, loads);
-    match choose(home, live, i, &spec, loads, time) {
-        Some(choice) => {
-            let place = place_on(machine_row(home, choice.at));
-            place_task(home, live, i, place);
-        }
-        None => {}
+    if let Some(choice) = choose(home, live, i, &spec, loads, time) {
+        let place = place_on(machine_row(home, choice.at));
+        place_task(home, live, i, place);
     }
 }
 

@@ -19,14 +19,14 @@ use jobs::tasks::end_task;
 fn enough_ready(job: &Job, tally: &Tally) -> bool
     ensures { result ≡ nat_lt job.now.least tally.now.ready }
 {
-    (job.least as usize) < tally.ready
+    usize::from(job.least) < tally.ready
 }
 
 // Are there more of the present version than are wanted.
 fn too_many(job: &Job, tally: &Tally) -> bool
     ensures { result ≡ nat_lt job.now.count tally.now.new }
 {
-    (job.count as usize) < tally.new
+    usize::from(job.count) < tally.new
 }
 
 // One task of an older version ends; else one too many; a new one comes where one is missing.

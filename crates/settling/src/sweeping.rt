@@ -22,9 +22,8 @@ fn end_orphan(home: &mut [u64], i: usize)
         return;
     }
     let name = name_from(task_kind(row));
-    match find_job(home, &name) {
-        None => end_task(home, i),
-        Some(_) => {}
+    if find_job(home, &name).is_none() {
+        end_task(home, i);
     }
 }
 

@@ -1,13 +1,13 @@
 // What is there of a job.
 
 // The last task that surely isn't ready, and the last that is, by their rows.
-#[derive(Clone, Copy)]
+#[derive(Clone, Copy, Default)]
 pub struct Picks {
     pub idle: Option<usize>,
     pub busy: Option<usize>,
 }
 
-#[derive(Clone, Copy)]
+#[derive(Clone, Copy, Default)]
 pub struct Tally {
     // All tasks, of whatever job.
     pub total: usize,

@@ -1,27 +1,29 @@
-use Rattle.std.proofs.Common.{◌≡◌, ◌+◌, true, false, sym, ap, ◌∙◌, rules}
+use Rattle.std.proofs.Common.{◌≡◌, true, false, sym, ◌∙◌, rules}
 use mir.Val.{bool_byte}
+use Rattle.std.proofs.lemmas.Bool.{eqb-true, eqb-false}
 use Rattle.model.specs.State.{is_ending}
 use Rattle.jobs.specs.Values.{job_of, phase_of, machine_of}
-use Rattle.settling.specs.declared.tally.Picks.{Picks}
 use Rattle.settling.proofs.Tallies.{takes_new, takes_old}
 use Rattle.settling.proofs.counting.step.Goals as goal
 
-pub returns-then-version_from-job : goal.returns-then-version_from-job
-returns-then-version_from-job c =
+pub returns-then-eq : goal.returns-then-eq
+returns-then-eq c =
     let y = c.args.tally in
     let ends : is_ending (phase_of c.phase_from-phase.result) ≡ false = sym c.ending_now.ensures ∙ c.if-ending_now.false in
     let named : c.is_named.result ≡ true = search rules in
-    ap (λ (p : Picks). record { total = y.total + 1; all = y.all + 1; new = y.new + 1; ready = y.ready + bool_byte c.ready_now-ready.result; old = y.old; newer = p }) c.pick-next.ensures ∙
-    takes_new c.args.home.now c.args.live.now c.args.time c.args.i c.task_row-row.result.now c.task_kind-kind.result.now c.task_row-row.ensures.is c.task_kind-kind.ensures.is (job_of c.args.job.now) y
+    let ready : c.from.result ≡ bool_byte c.ready_now-ready.result = search rules in
+    rw (ready, c.pick-next.ensures)
+    (takes_new c.args.home.now c.args.live.now c.args.time c.args.i c.task_row-row.result.now c.task_kind-kind.result.now c.task_row-row.ensures.is c.task_kind-kind.ensures.is (job_of c.args.job.now) y
     c.is_named.result c.is_named.ensures named (phase_of c.phase_from-phase.result) (machine_of c.phase_from-phase.result) c.phase_from-phase.ensures.phase c.phase_from-phase.ensures.machine
-    ends c.if-row-eq0.false c.ready_now-ready.result c.spare-idle.result c.ready_now-ready.ensures c.spare-idle.ensures c.version_from.result.0 c.version_from.ensures c.if-version_from-job.true
+    ends c.if-row-eq0.false c.ready_now-ready.result c.spare-idle.result c.ready_now-ready.ensures c.spare-idle.ensures c.version_from.result.0 c.version_from.ensures (eqb-true _ _ (sym c.eq.ensures ∙ c.if-eq.true)))
 
-pub returns-else-version_from-job : goal.returns-else-version_from-job
-returns-else-version_from-job c =
+pub returns-else-eq : goal.returns-else-eq
+returns-else-eq c =
     let y = c.args.tally in
     let ends : is_ending (phase_of c.phase_from-phase.result) ≡ false = sym c.ending_now.ensures ∙ c.if-ending_now.false in
     let named : c.is_named.result ≡ true = search rules in
-    ap (λ (p : Picks). record { total = y.total + 1; all = y.all + 1; new = y.new; ready = y.ready + bool_byte c.ready_now-ready.result; old = p; newer = y.newer }) c.pick-next-else-version_from-job.ensures ∙
-    takes_old c.args.home.now c.args.live.now c.args.time c.args.i c.task_row-row.result.now c.task_kind-kind.result.now c.task_row-row.ensures.is c.task_kind-kind.ensures.is (job_of c.args.job.now) y
+    let ready : c.from.result ≡ bool_byte c.ready_now-ready.result = search rules in
+    rw (ready, c.pick-next-else-eq.ensures)
+    (takes_old c.args.home.now c.args.live.now c.args.time c.args.i c.task_row-row.result.now c.task_kind-kind.result.now c.task_row-row.ensures.is c.task_kind-kind.ensures.is (job_of c.args.job.now) y
     c.is_named.result c.is_named.ensures named (phase_of c.phase_from-phase.result) (machine_of c.phase_from-phase.result) c.phase_from-phase.ensures.phase c.phase_from-phase.ensures.machine
-    ends c.if-row-eq0.false c.ready_now-ready.result c.spare-idle.result c.ready_now-ready.ensures c.spare-idle.ensures c.version_from.result.0 c.version_from.ensures c.if-version_from-job.false
+    ends c.if-row-eq0.false c.ready_now-ready.result c.spare-idle.result c.ready_now-ready.ensures c.spare-idle.ensures c.version_from.result.0 c.version_from.ensures (eqb-false _ _ (sym c.eq.ensures ∙ c.if-eq.false)))

@@ -1,11 +1,13 @@
-use Rattle.std.proofs.Common.{refl, arith}
+use Rattle.std.proofs.Common.{◌≡◌, refl, arith, rules}
 use Rattle.jobs.specs.Tables.{task_at, state_of}
 use Rattle.jobs.specs.Values.{job_of}
-use Rattle.settling.proofs.Tallies.{tallied_none, tallied_more, tallied_few, row_few}
+use Rattle.settling.proofs.Tallies.{no_tally, tallied_none, tallied_more, tallied_few, row_few}
 use Rattle.settling.proofs.counting.tally_of.Goals as goal
 
 pub loop-i-init : goal.loop-i-init
-loop-i-init c = tallied_none (job_of c.args.job.now) (state_of c.args.home.now c.args.live.now c.args.time) (task_at c.args.home.now c.args.live.now)
+loop-i-init c =
+    let none : c.default-tally.result ≡ no_tally = search rules in
+    rw none (tallied_none (job_of c.args.job.now) (state_of c.args.home.now c.args.live.now c.args.time) (task_at c.args.home.now c.args.live.now))
 
 pub step-tally-requires : goal.step-tally-requires
 step-tally-requires c =

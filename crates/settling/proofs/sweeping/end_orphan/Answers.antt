@@ -1,27 +1,28 @@
-use Rattle.std.proofs.Common.{◌≡◌, drop, sym, ap, ◌∙◌}
+use Rattle.std.proofs.Common.{◌≡◌, not, drop, sym, ap, ◌∙◌}
 use Rattle.model.specs.Lists.{find}
 use Rattle.model.specs.State as s
 use Rattle.model.specs.State.{is_job}
 use Rattle.jobs.specs.Rows.{at}
-use Rattle.jobs.specs.Tables.{name_from_lem, task_row_lem, task_from, jobs_of}
+use Rattle.jobs.specs.Tables.{name_from_lem, task_row_lem, task_from, job_at, job_rows_lem, jobs_of}
 use Rattle.jobs.specs.Values.{name_of}
 use Rattle.settling.proofs.Tallies.{row_full, row_hole, job_is}
-use Rattle.settling.proofs.Sweeps.{orphan_hole, orphan_wanted, orphan_put}
+use Rattle.settling.proofs.Sweeps.{orphan_hole, orphan_wanted, orphan_put, unfound, found_one}
 use Rattle.settling.proofs.sweeping.end_orphan.Goals as goal
 
 pub returns-then-row-eq0 : goal.returns-then-row-eq0
 returns-then-row-eq0 c = λ live. orphan_hole c.args.home.now live c.args.i (row_hole c.args.home.now live c.task_row-row.result.now c.args.i c.task_row-row.ensures.is c.if-row-eq0.true)
 
-pub returns-in-None : goal.returns-in-None
-returns-in-None c = λ live.
+pub returns-then-is_none : goal.returns-then-is_none
+returns-then-is_none c = λ live.
     let home = c.args.home.now in
     let n : name_of c.name_from-name.result ≡ name_from_lem (drop 4 (task_row_lem home c.args.i)) = c.name_from-name.ensures ∙ job_is home live c.args.i c.task_row-row.result.now c.task_kind.result.now c.task_row-row.ensures.is c.task_kind.ensures.is in
     orphan_put home live c.end_task.new.home c.args.i (task_from (task_row_lem home c.args.i) (at live _)) (row_full home live c.task_row-row.result.now c.args.i c.task_row-row.ensures.is c.if-row-eq0.false)
-    (ap (λ (x : s.Name). find (is_job x) (jobs_of home)) (sym n) ∙ c.in-None.ensures) (c.end_task.ensures live)
+    (ap (λ (x : s.Name). find (is_job x) (jobs_of home)) (sym n) ∙ unfound (is_job (name_of c.name_from-name.result)) (job_at home) (job_rows_lem home) c.find_job.result (c.is_none.ensures ∙ ap not c.if-is_none.true) c.find_job.ensures) (c.end_task.ensures live)
 
-pub returns-in-Some : goal.returns-in-Some
-returns-in-Some c = λ live.
+pub returns-else-is_none : goal.returns-else-is_none
+returns-else-is_none c = λ live.
     let home = c.args.home.now in
     let n : name_of c.name_from-name.result ≡ name_from_lem (drop 4 (task_row_lem home c.args.i)) = c.name_from-name.ensures ∙ job_is home live c.args.i c.task_row-row.result.now c.task_kind.result.now c.task_row-row.ensures.is c.task_kind.ensures.is in
-    orphan_wanted home live c.args.i (task_from (task_row_lem home c.args.i) (at live _)) c.in-Some.ensures.0 (row_full home live c.task_row-row.result.now c.args.i c.task_row-row.ensures.is c.if-row-eq0.false)
-    (ap (λ (x : s.Name). find (is_job x) (jobs_of home)) (sym n) ∙ c.in-Some.ensures.3)
+    let k = found_one (is_job (name_of c.name_from-name.result)) (job_at home) (job_rows_lem home) c.find_job.result (c.is_none.ensures ∙ ap not c.if-is_none.false) c.find_job.ensures in
+    orphan_wanted home live c.args.i (task_from (task_row_lem home c.args.i) (at live _)) k.0 (row_full home live c.task_row-row.result.now c.args.i c.task_row-row.ensures.is c.if-row-eq0.false)
+    (ap (λ (x : s.Name). find (is_job x) (jobs_of home)) (sym n) ∙ k.1)
