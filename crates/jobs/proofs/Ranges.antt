@@ -2,7 +2,7 @@
 -- Assumes nothing.
 use Rattle.std.proofs.Common.{◌≡◌, ℕ, zero, suc, ◌+◌, ◌<◌, ◌≤◌, Bool, true, false, cond, List, [], ◌∷◌, length, Option, None, Some, MatchOption, not, ◌&&◌, ◌||◌, ◌==◌, sym, refl, ◌∙◌, inl, inr, arith}
 use Rattle.std.proofs.lemmas.List.{length-append}
-use Rattle.std.proofs.lemmas.Bool.{cases_Bool, true≢false}
+use Rattle.std.proofs.lemmas.Bool.{cases_Bool, eqb-true, eqb-false, true≢false}
 use Rattle.model.specs.Lists.{find, some}
 use Rattle.jobs.specs.Rows.{at, row_at, span, entry_at}
 use Rattle.jobs.specs.Tables.{FoundAt}
@@ -25,6 +25,13 @@ module _ (b w : ℕ) (ws fs : List ℕ) (i : ℕ) where
 pub one_or_none : {X Y : Type 0} (h : Bool) (x : X) (y : Y) → length (cond h [] (x ∷ [])) ≡ length (cond h [] (y ∷ []))
 one_or_none true x y = refl
 one_or_none false x y = refl
+
+-- what asking whether a row is a hole says of its first word
+pub hole : {a : ℕ} {b : Bool} → b ≡ (a == 0) → b ≡ true → a ≡ 0
+hole {a} e t = eqb-true a 0 (sym e ∙ t)
+
+pub no_hole : {a : ℕ} {b : Bool} → b ≡ (a == 0) → b ≡ false → a ≡ 0 → ⊥
+no_hole {a} e f = eqb-false a 0 (sym e ∙ f)
 
 -- the same, where that is known
 pub slot_gone : {X : Type 0} (h : Bool) (x : X) → h ≡ true → cond h [] (x ∷ []) ≡ []

@@ -72,6 +72,20 @@ impl Kind<'_> {
         Version(low_half(self.words[0]))
     }
 
+    // How much cpu a task is to have.
+    pub fn cpu(self) -> u32
+        ensures { result ≡ low (at self.entry.words.now 2) }
+    {
+        low_half(self.words[2])
+    }
+
+    // How much memory a task is to have.
+    pub fn mem(self) -> u32
+        ensures { result ≡ low (at self.entry.words.now 3) }
+    {
+        low_half(self.words[3])
+    }
+
     fn tags(self) -> [u32; 8]
         ensures { result ≡ map low (take 8 (drop 6 self.entry.words.now)) }
     {
@@ -83,8 +97,8 @@ impl Kind<'_> {
     {
         Spec {
             image: low_half(self.words[1]),
-            cpu: low_half(self.words[2]),
-            mem: low_half(self.words[3]),
+            cpu: self.cpu(),
+            mem: self.mem(),
             apart: self.words[4] != 0,
             count: self.words[5].min(8) as u8,
             tags: self.tags(),

@@ -1,5 +1,5 @@
 // Tasks in their rows: reading one, and changing it where it stands.
-ghost use Rattle.std.specs.Prelude.{◌≡◌, ℕ, ◌+◌, ◌*◌, ◌%◌, ◌<◌, ◌≤◌, List, [], length, if◌then◌else◌, nat_eq};
+ghost use Rattle.std.specs.Prelude.{◌≡◌, ℕ, ◌+◌, ◌*◌, ◌%◌, ◌<◌, ◌≤◌, List, [], length, if◌then◌else◌, nat_eq, ◌==◌};
 ghost use Rattle.jobs.specs.Layout.{home_words_lem, live_words};
 ghost use Rattle.jobs.specs.Rows.{at};
 ghost use Rattle.jobs.specs.Tables.{low, spec_from_lem, version_from_lem, phase_from_lem, task_at, TaskPut};
@@ -81,6 +81,13 @@ impl TaskRow<'_> {
             1 => Mark::Placed,
             _ => Mark::Ending,
         }
+    }
+
+    // Does it wait.
+    pub fn is_waiting(self) -> bool
+        ensures { result ≡ (at self.entry.words.now 1 == 0) }
+    {
+        self.words[1] == Mark::Waiting as u64
     }
 
     // Its phase, by the word in `live` that says whether it is ready.

@@ -1,6 +1,6 @@
 -- Scans of rows from the first on: what is found, counted and picked.
 -- Assumes nothing.
-use Rattle.std.proofs.Common.{◌≡◌, ℕ, zero, suc, ◌+◌, ◌≤◌, Bool, true, false, cond, ◌||◌, eqb, List, [], ◌∷◌, ◌++◌, length, sym, refl, ap, ◌∙◌, inl, inr, arith}
+use Rattle.std.proofs.Common.{◌≡◌, ℕ, zero, suc, ◌+◌, ◌≤◌, Bool, true, false, cond, ◌&&◌, ◌||◌, eqb, List, [], ◌∷◌, ◌++◌, length, sym, refl, ap, ◌∙◌, inl, inr, arith}
 use Rattle.std.specs.List.{list_any, range_with_len}
 use Rattle.std.proofs.lemmas.List.{append-nil, length_push}
 use Rattle.std.proofs.lemmas.Bool.{cases_Bool, eq-eqb, ne_eqb}
@@ -31,6 +31,11 @@ module _ {X : Type 0} where
   pub some_one : (f : X → Bool) (x : X) → some f (x ∷ []) ≡ f x
   unfolding some
   some_one f x = or_nil (f x)
+
+  -- a test with another beside it, of what a row stands for
+  pub both : (a q : X → Bool) (h b : Bool) (x y : X) → a x ≡ a y → b ≡ some a (cond h [] (y ∷ [])) → (b && q x) ≡ some (λ z. a z && q z) (cond h [] (x ∷ []))
+  both a q true b x y e s = (let z : b ≡ false = s ∙ some_none a in rw z refl) ∙ sym (some_none (λ z. a z && q z))
+  both a q false b x y e s = (let z : b ≡ a x = s ∙ some_one a y ∙ sym e in rw z refl) ∙ sym (some_one (λ z. a z && q z) x)
 
   pub some_append : (f : X → Bool) (xs ys : List X) → some f (xs ++ ys) ≡ (some f xs || some f ys)
   unfolding some

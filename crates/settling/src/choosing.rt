@@ -11,26 +11,26 @@ ghost use Rattle.settling.specs.Place.{Loaded, fits_on_lem, improved, Chosen, ta
 use crate::load::{Choice, Load};
 use crate::presence::heard_lately;
 use jobs::kinds::low_half;
-use jobs::rows::{machine_row, machine_rows};
+use jobs::rows::{MACHINES, MachineRow};
 use jobs::spec::Spec;
 
 // Has the machine in a row that tag.
-fn has_tag(row: &[u64], tag: u32) -> bool
-    requires { length row.now ≡ 24 }
-    ensures { result ≡ some (nat_eq tag) (take (min (at row.now 7) 16) (map low (drop 8 row.now))) }
+fn has_tag(row: MachineRow, tag: u32) -> bool
+    ensures { result ≡ some (nat_eq tag) (take (min (at row.entry.words.now 7) 16) (map low (drop 8 row.entry.words.now))) }
 {
-    let count = row[7].min(16) as usize;
-    row[8..8 + count].iter().any(|word| tag == low_half(*word))
+    let count = row.words[7].min(16) as usize;
+    row.words[8..8 + count]
+        .iter()
+        .any(|word| tag == low_half(*word))
 }
 
 // Is the machine in a row open, present, free of the job where its tasks are to be apart, and with room.
-fn fits_on(row: &[u64], heard: u64, spec: &Spec, load: Load, time: u64) -> bool
-    requires { length row.now ≡ 24 }
-    ensures { result ≡ fits_on_lem time (spec_of spec.now) load (machine_from row.now heard) }
+fn fits_on(row: MachineRow, heard: u64, spec: &Spec, load: Load, time: u64) -> bool
+    ensures { result ≡ fits_on_lem time (spec_of spec.now) load (machine_from row.entry.words.now heard) }
 {
-    let cpu = low_half(row[2]);
-    let mem = low_half(row[3]);
-    row[4] != 0
+    let cpu = row.cpu();
+    let mem = row.mem();
+    row.is_open()
         && heard_lately(heard, time)
         && !(spec.apart && load.mine)
         && spec.cpu <= cpu
@@ -66,9 +66,9 @@ pub fn choose(
     ensures { Chosen (machine_at home.now live.now) (machine_rows_lem home.now) (tasks_of home.now live.now) result (bestOf (keep (takes time (task_in home.now live.now i) (tasks_of home.now live.now)) (machines_of home.now live.now)) (tasks_of home.now live.now)) }
 {
     let mut best = None;
-    'machines: for r in 0..machine_rows(home) {
-        let row = machine_row(home, r);
-        if row[0] == 0 {
+    'machines: for r in 0..MACHINES.in_use(home) {
+        let row = MACHINES.row(home, r);
+        if row.is_hole() {
             continue;
         }
         let load = loads[r];
@@ -80,7 +80,7 @@ pub fn choose(
                 continue 'machines;
             }
         }
-        best = improve(best, r, u64::from(low_half(row[2])) - load.cpu);
+        best = improve(best, r, u64::from(row.cpu()) - load.cpu);
     }
     best
 }

@@ -10,12 +10,9 @@ ghost use Rattle.settling.specs.Scan.{is_present, stepped_by, Tallied};
 use crate::presence::surely;
 use crate::tally::{Picks, Tally};
 use jobs::job::Job;
-use jobs::kinds::version_from;
 use jobs::layout::READY_BASE;
-use jobs::naming::is_named;
 use jobs::phase::Phase;
-use jobs::rows::{task_kind, task_row, task_rows};
-use jobs::tasks::phase_from;
+use jobs::rows::TASKS;
 
 fn ready_now(p: Phase) -> bool
     ensures { result ≡ is_ready_lem (phase_of p) }
@@ -62,25 +59,25 @@ fn step(tally: Tally, home: &[u64], live: &[u64], i: usize, job: &Job, time: u64
     requires ready { tally.ready ≤ i }
     ensures { result ≡ stepped_by (job_of job.now) (state_of home.now live.now time) i (task_at home.now live.now i) tally }
 {
-    let row = task_row(home, i);
-    if row[0] == 0 {
+    let row = TASKS.row(home, i);
+    if row.is_hole() {
         return tally;
     }
     let mut next = tally;
     next.total += 1;
-    let kind = task_kind(row);
-    if !is_named(kind, &job.name) {
+    let kind = row.kind();
+    if !kind.is_named(&job.name) {
         return next;
     }
     next.all += 1;
-    let phase = phase_from(row, live[READY_BASE + i]);
+    let phase = row.phase(live[READY_BASE + i]);
     if ending_now(phase) {
         return next;
     }
     let ready = ready_now(phase);
     let idle = spare(home, live, phase, time);
     next.ready += usize::from(ready);
-    if version_from(kind) == job.version {
+    if kind.version() == job.version {
         next.new += 1;
         next.newer = pick(tally.newer, i, ready, idle);
     } else {
@@ -97,7 +94,7 @@ pub fn tally_of(home: &[u64], live: &[u64], job: &Job, time: u64) -> Tally
 {
     // No fold: a closure's clauses have no place for the bounds on the counts.
     let mut tally = Tally::default();
-    for i in 0..task_rows(home) {
+    for i in 0..TASKS.in_use(home) {
         tally = step(tally, home, live, i, job, time);
     }
     tally

@@ -12,7 +12,7 @@ use jobs::ids::LAST;
 use jobs::job::Job;
 use jobs::layout::{LAST_ID, MAX_TASKS};
 use jobs::moves::{add_task, compact};
-use jobs::rows::task_rows;
+use jobs::rows::TASKS;
 
 // Is one of the present version missing, and is there room for it.
 fn may_grow(home: &[u64], live: &[u64], job: &Job, tally: &Tally, time: u64) -> bool
@@ -33,7 +33,7 @@ fn make_room(home: &mut [u64], live: &mut [u64])
     ensures same { TasksNow (tasks_of home.old live.old) home.old live.old home.new live.new }
     ensures free { length (tasks_of home.old live.old) < 2048 → task_rows_lem home.new < 2048 }
 {
-    if task_rows(home) == MAX_TASKS {
+    if TASKS.in_use(home) == MAX_TASKS {
         compact(home, live);
     }
 }

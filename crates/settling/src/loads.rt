@@ -8,10 +8,8 @@ ghost use Rattle.settling.specs.Place.{Loaded, weight_of, heavier, no_load, num_
 
 use crate::load::{Load, Weight};
 use jobs::ids::MachineId;
-use jobs::kinds::low_half;
 use jobs::name::Name;
-use jobs::naming::is_named;
-use jobs::rows::{machine_number, machine_row, machine_rows, task_kind, task_row, task_rows};
+use jobs::rows::{MACHINES, TASKS};
 
 // What the task in row `i` adds to its machine.
 fn weight(home: &[u64], i: usize, job: &Name) -> Option<Weight>
@@ -19,16 +17,16 @@ fn weight(home: &[u64], i: usize, job: &Name) -> Option<Weight>
     requires within { i < 2048 }
     ensures { (live : List ℕ) → result ≡ weight_of (name_of job.now) (task_at home.now live i) }
 {
-    let row = task_row(home, i);
-    if row[0] == 0 || row[1] == 0 {
+    let row = TASKS.row(home, i);
+    if row.is_hole() || row.is_waiting() {
         return None;
     }
-    let kind = task_kind(row);
+    let kind = row.kind();
     Some(Weight {
-        machine: machine_number(row[2]),
-        cpu: low_half(kind[2]),
-        mem: low_half(kind[3]),
-        mine: is_named(kind, job),
+        machine: row.machine(),
+        cpu: kind.cpu(),
+        mem: kind.mem(),
+        mine: kind.is_named(job),
     })
 }
 
@@ -55,8 +53,8 @@ fn add_to_all(home: &[u64], w: Weight, loads: &mut [Load])
     requires few { (r : ℕ) (e : LoadT) → r < machine_rows_lem home.now → ((get_or loads.old r e).cpu < 1000000000000000) × ((get_or loads.old r e).mem < 1000000000000000) }
     ensures { (r : ℕ) (e : LoadT) → r < machine_rows_lem home.now → slice_index_or loads.new r e ≡ heavier (num_at home.now r) w (slice_index_or loads.old r e) }
 {
-    for (r, load) in loads[..machine_rows(home)].iter_mut().enumerate() {
-        *load = add_weight(*load, machine_number(machine_row(home, r)[1]), w);
+    for (r, load) in loads[..MACHINES.in_use(home)].iter_mut().enumerate() {
+        *load = add_weight(*load, MACHINES.row(home, r).num(), w);
     }
 }
 
@@ -67,7 +65,7 @@ pub fn weigh_all(home: &[u64], job: &Name, loads: &mut [Load])
     ensures { (live : List ℕ) → Loaded (name_of job.now) home.now (tasks_of home.now live) loads.new }
 {
     loads.fill(Load::default());
-    for i in 0..task_rows(home) {
+    for i in 0..TASKS.in_use(home) {
         if let Some(w) = weight(home, i, job) {
             add_to_all(home, w, loads);
         }

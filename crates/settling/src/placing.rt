@@ -10,22 +10,18 @@ ghost use Rattle.settling.specs.Place.{PlacedRow};
 use crate::choosing::choose;
 use crate::load::Load;
 use crate::loads::weigh_all;
-use jobs::ids::Life;
-use jobs::kinds::spec_from;
-use jobs::naming::name_from;
 use jobs::phase::Place;
-use jobs::rows::{machine_number, machine_row, task_kind, task_row, task_rows};
+use jobs::rows::{MACHINES, MachineRow, TASKS};
 use jobs::tasks::place_task;
 
 // The place on the machine in a row, in the life that was last heard.
-fn place_on(row: &[u64]) -> Place
-    requires { length row.now ≡ 24 }
-    ensures machine { result.machine.0 ≡ at row.now 1 % 65536 }
-    ensures life { result.life.0 ≡ at row.now 5 }
+fn place_on(row: MachineRow) -> Place
+    ensures machine { result.machine.0 ≡ at row.entry.words.now 1 % 65536 }
+    ensures life { result.life.0 ≡ at row.entry.words.now 5 }
 {
     Place {
-        machine: machine_number(row[1]),
-        life: Life(row[5]),
+        machine: row.num(),
+        life: row.life(),
     }
 }
 
@@ -38,16 +34,16 @@ fn place_row(home: &mut [u64], live: &mut [u64], i: usize, loads: &mut [Load], t
     requires numbered { Numbered (state_of home.old live.old time) }
     ensures { PlacedRow i home.old live.old home.new live.new time }
 {
-    let row = task_row(home, i);
-    if row[0] == 0 || row[1] != 0 {
+    let row = TASKS.row(home, i);
+    if row.is_hole() || !row.is_waiting() {
         return;
     }
-    let kind = task_kind(row);
-    let name = name_from(kind);
-    let spec = spec_from(kind);
+    let kind = row.kind();
+    let name = kind.name();
+    let spec = kind.spec();
     weigh_all(home, &name, loads);
     if let Some(choice) = choose(home, live, i, &spec, loads, time) {
-        let place = place_on(machine_row(home, choice.at));
+        let place = place_on(MACHINES.row(home, choice.at));
         place_task(home, live, i, place);
     }
 }
@@ -60,7 +56,7 @@ pub fn place_all(home: &mut [u64], live: &mut [u64], loads: &mut [Load], time: u
     requires numbered { Numbered (state_of home.old live.old time) }
     ensures { Became (placedAll (state_of home.old live.old time)) home.old live.old home.new live.new time }
 {
-    for i in 0..task_rows(home) {
+    for i in 0..TASKS.in_use(home) {
         place_row(home, live, i, loads, time);
     }
 }

@@ -9,7 +9,7 @@ ghost use Rattle.settling.specs.Scan.{is_present};
 
 use jobs::ids::MachineId;
 use jobs::phase::Phase;
-use jobs::rows::{machine_number, machine_row, machine_rows};
+use jobs::rows::MACHINES;
 
 // Was a report heard in the last 30,000 ms.
 pub fn heard_lately(heard: u64, time: u64) -> bool
@@ -25,11 +25,7 @@ fn present_in(home: &[u64], live: &[u64], i: usize, num: MachineId, time: u64) -
     requires within { i < 256 }
     ensures { result ≡ some (is_present time num.0) (machine_at home.now live.now i) }
 {
-    let row = machine_row(home, i);
-    if row[0] == 0 || num != machine_number(row[1]) {
-        return false;
-    }
-    heard_lately(live[i], time)
+    MACHINES.row(home, i).is_numbered(num) && heard_lately(live[i], time)
 }
 
 // Is that machine present.
@@ -38,7 +34,7 @@ pub fn heard_of(home: &[u64], live: &[u64], num: MachineId, time: u64) -> bool
     requires flags { live_words ≤ length live.now }
     ensures { result ≡ some (is_present time num.0) (machines_of home.now live.now) }
 {
-    (0..machine_rows(home)).any(|i| present_in(home, live, i, num, time))
+    (0..MACHINES.in_use(home)).any(|i| present_in(home, live, i, num, time))
 }
 
 // Is it known whether a task in that phase is ready.

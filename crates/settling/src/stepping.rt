@@ -11,8 +11,7 @@ use crate::ending::to_end;
 use crate::growing::grow;
 use crate::tally::Tally;
 use jobs::job::Job;
-use jobs::kinds::job_from;
-use jobs::rows::job_row;
+use jobs::rows::JOBS;
 use jobs::tasks::end_task;
 
 // Are more ready than are to stay.
@@ -61,10 +60,10 @@ pub fn step_job(home: &mut [u64], live: &mut [u64], j: usize, time: u64)
     requires numbered { Numbered (state_of home.old live.old time) }
     ensures { Became (for_jobs (job_at home.old j) (state_of home.old live.old time)) home.old live.old home.new live.new time }
 {
-    let row = job_row(home, j);
-    if row[0] == 0 {
+    let row = JOBS.row(home, j);
+    if row.is_hole() {
         return;
     }
-    let job = job_from(row);
+    let job = row.job();
     step_for(home, live, j, &job, time);
 }

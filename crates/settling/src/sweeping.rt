@@ -7,8 +7,7 @@ ghost use Rattle.settling.specs.Scan.{Numbered, Became};
 
 use crate::stepping::step_job;
 use jobs::finding::find_job;
-use jobs::naming::name_from;
-use jobs::rows::{job_rows, task_kind, task_row, task_rows};
+use jobs::rows::{JOBS, TASKS};
 use jobs::tasks::end_task;
 
 // Ends the task in row `i` if its job is no longer wanted.
@@ -17,11 +16,11 @@ fn end_orphan(home: &mut [u64], i: usize)
     requires within { i < 2048 }
     ensures { (live : List ℕ) → TaskPut i (orphans_end (jobs_of home.old) (task_at home.old live i)) home.old live home.new live }
 {
-    let row = task_row(home, i);
-    if row[0] == 0 {
+    let row = TASKS.row(home, i);
+    if row.is_hole() {
         return;
     }
-    let name = name_from(task_kind(row));
+    let name = row.kind().name();
     if find_job(home, &name).is_none() {
         end_task(home, i);
     }
@@ -32,7 +31,7 @@ pub fn end_orphans(home: &mut [u64])
     requires { home_words_lem ≤ length home.old }
     ensures { (live : List ℕ) → TasksNow (orphans_end (jobs_of home.old) (tasks_of home.old live)) home.old live home.new live }
 {
-    for i in 0..task_rows(home) {
+    for i in 0..TASKS.in_use(home) {
         end_orphan(home, i);
     }
 }
@@ -44,7 +43,7 @@ pub fn step_jobs(home: &mut [u64], live: &mut [u64], time: u64)
     requires numbered { Numbered (state_of home.old live.old time) }
     ensures { Became (for_jobs (jobs_of home.old) (state_of home.old live.old time)) home.old live.old home.new live.new time }
 {
-    for j in 0..job_rows(home) {
+    for j in 0..JOBS.in_use(home) {
         step_job(home, live, j, time);
     }
 }

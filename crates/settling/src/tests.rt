@@ -12,7 +12,7 @@ use jobs::layout::{HOME_WORDS, LIVE_WORDS, READY_BASE};
 use jobs::machine::Machine;
 use jobs::machine_rows::{add_machine, hear};
 use jobs::name::Name;
-use jobs::rows::{job_rows, machine_rows, task_row, task_rows};
+use jobs::rows::{JOBS, MACHINES, TASKS};
 use jobs::spec::Spec;
 use std::test::Fail;
 
@@ -22,8 +22,8 @@ fn is_numbered(home: &[u64]) -> bool
     ensures { result ≡ true → (live : List ℕ) (time : ℕ) → Numbered (state_of home.now live time) }
 {
     let mut last = 0;
-    for i in 0..task_rows(home) {
-        let id = task_row(home, i)[0];
+    for i in 0..TASKS.in_use(home) {
+        let id = TASKS.row(home, i).id().0;
         if id != 0 {
             if id <= last {
                 return false;
@@ -77,7 +77,7 @@ fn pass(home: &mut [u64], live: &mut [u64], i: usize) -> Result<[u64; 3], Fail> 
         return Err(Fail::new("not numbered"));
     }
     settle(home, live, 5);
-    let row = task_row(home, i);
+    let row = TASKS.row(home, i).words;
     Ok([row[0], row[1], row[2]])
 }
 
@@ -86,7 +86,7 @@ fn heard_machine(home: &mut [u64], live: &mut [u64], i: usize) -> Result<(), Fai
     if home.len() < HOME_WORDS || live.len() < LIVE_WORDS || i >= 256 {
         return Err(Fail::new("too short"));
     }
-    if add_machine(home, live, machine(i as u16 + 1)).is_err() || i >= machine_rows(home) {
+    if add_machine(home, live, machine(i as u16 + 1)).is_err() || i >= MACHINES.in_use(home) {
         return Err(Fail::new("no machine"));
     }
     hear(home, live, i, Life(1), ReportNumber(1), 1);
@@ -127,7 +127,7 @@ fn versions_roll(rt: HostRuntime) -> Result<(), Fail> {
     assert_eq!(rt; pass(&mut home, &mut live, 1)?, [2, 1, 2]);
     live[READY_BASE] = 1;
     live[READY_BASE + 1] = 1;
-    if job_rows(&home) < 1 {
+    if JOBS.in_use(&home) < 1 {
         return Err(Fail::new("no job"));
     }
     put_job(&mut home, 0, job(2, 0, 2));

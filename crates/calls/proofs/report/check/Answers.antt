@@ -17,12 +17,12 @@ returns-in_err-i c =
 
 pub returns-then-stale : goal.returns-then-stale
 returns-then-stale c = λ live time.
-    let f = found_as c.args.report.machine.0 c.args.home.now live _ _ c.in_ok-i.ensures.ok_part (c.find_machine.ensures live) in let w = row_news c.args.home.now live c.machine_row-row.result.now c.in_ok-i.i f.0 c.machine_row-row.ensures.is f.2 in
+    let f = found_as c.args.report.machine.0 c.args.home.now live _ _ c.in_ok-i.ensures.ok_part (c.find_machine.ensures live) in let w = row_news c.args.home.now live c.row-row.result.words.now c.in_ok-i.i f.0 c.row-row.ensures f.2 in
     stale c.args.report _ (sym c.out_of_range.ensures ∙ c.if-out_of_range.false) f.0 f.3 (sym (same_stale c.args.report _ _ _ _ w.0 w.1) ∙ sym c.stale.ensures ∙ c.if-stale.true)
 
 pub returns : goal.returns
 returns c = λ live time.
-    let f = found_as c.args.report.machine.0 c.args.home.now live _ _ c.in_ok-i.ensures.ok_part (c.find_machine.ensures live) in let w = row_news c.args.home.now live c.machine_row-row.result.now c.in_ok-i.i f.0 c.machine_row-row.ensures.is f.2 in (
+    let f = found_as c.args.report.machine.0 c.args.home.now live _ _ c.in_ok-i.ensures.ok_part (c.find_machine.ensures live) in let w = row_news c.args.home.now live c.row-row.result.words.now c.in_ok-i.i f.0 c.row-row.ensures f.2 in (
       (f.0, f.1, f.2, f.4, f.5),
       news c.args.report _ (sym c.out_of_range.ensures ∙ c.if-out_of_range.false) f.0 f.3 (sym (same_stale c.args.report _ _ _ _ w.0 w.1) ∙ sym c.stale.ensures ∙ c.if-stale.false),
     )

@@ -13,8 +13,8 @@ use Rattle.calls.proofs.setting.reset_job.Goals as goal
 
 pub returns-in_err-version : goal.returns-in_err-version
 returns-in_err-version c = λ x e q f.
-    let r : job_from_lem c.job_row.result.now ≡ x = ap job_from_lem c.job_row.ensures.is ∙ row_is c.args.home.now c.args.i x e in
-    let next : Option Version → Type 0 = λ o. NextAs (same_spec_lem (spec_of c.args.job.spec) (job_from_lem c.job_row.result.now).spec) (job_from_lem c.job_row.result.now).version o in
+    let r : job_from_lem c.row.result.words.now ≡ x = ap job_from_lem c.row.ensures ∙ row_is c.args.home.now c.args.i x e in
+    let next : Option Version → Type 0 = λ o. NextAs (same_spec_lem (spec_of c.args.job.spec) (job_from_lem c.row.result.words.now).spec) (job_from_lem c.row.result.words.now).version o in
     let none : next None = subst next c.in_err-version.ensures.ok_part c.next_version.ensures in
     let p = err_from_is_err_and c.from_residual.result c.from_residual.ensures.1 in
     rw (p.1, refused_by c.next_version.result Full _ _ c.in_err-version.ensures.ok_part c.in_err-version.ensures.value p.2) (record {
@@ -25,8 +25,8 @@ returns-in_err-version c = λ x e q f.
 pub returns : goal.returns
 returns c = λ x e q f.
     let j = c.args.job in
-    let r : job_from_lem c.job_row.result.now ≡ x = ap job_from_lem c.job_row.ensures.is ∙ row_is c.args.home.now c.args.i x e in
-    let next : Option Version → Type 0 = λ o. NextAs (same_spec_lem (spec_of c.args.job.spec) (job_from_lem c.job_row.result.now).spec) (job_from_lem c.job_row.result.now).version o in
+    let r : job_from_lem c.row.result.words.now ≡ x = ap job_from_lem c.row.ensures ∙ row_is c.args.home.now c.args.i x e in
+    let next : Option Version → Type 0 = λ o. NextAs (same_spec_lem (spec_of c.args.job.spec) (job_from_lem c.row.result.words.now).spec) (job_from_lem c.row.result.words.now).version o in
     let some : next (Some c.in_ok-version.version) = subst next c.in_ok-version.ensures.ok_part c.next_version.ensures in
     let v : c.in_ok-version.version.0 ≡ cond (same_spec_lem (spec_of c.args.job.spec) x.spec) x.version (x.version + 1) =
     subst (λ (y : s.Job). c.in_ok-version.version.0 ≡ cond (same_spec_lem (spec_of c.args.job.spec) y.spec) y.version (y.version + 1)) r some.1 in

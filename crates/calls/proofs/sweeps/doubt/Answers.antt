@@ -17,4 +17,4 @@ loop-i-preserved c =
     swept_more _ (doubt_each c.args.time (machines_of c.args.home.now c.args.live.now)) c.args.home.now c.args.live.now _ _ _ _ c.loop-i.i (omega arith) c.loop-i.invariant p
 
 pub returns : goal.returns
-returns c = swept_all _ (doubt_each c.args.time (machines_of c.args.home.now c.args.live.now)) c.args.home.now c.args.live.now _ _ c.task_rows-i-end.result c.loop-i.i c.task_rows-i-end.ensures.is (omega arith) (omega arith) c.loop-i.invariant
+returns c = swept_all _ (doubt_each c.args.time (machines_of c.args.home.now c.args.live.now)) c.args.home.now c.args.live.now _ _ c.in_use-i-end.result c.loop-i.i c.in_use-i-end.ensures.is (omega arith) (omega arith) c.loop-i.invariant

@@ -6,4 +6,4 @@ use Rattle.calls.proofs.versions.same_spec.Goals as goal
 
 pub returns : goal.returns
 returns c =
-    c.eq.ensures ∙ specs_alike c.args.spec.now c.spec_from-there.result _ _ c.tags.ensures c.tags-2.ensures ∙ ap (same_spec_lem (spec_of c.args.spec.now)) c.spec_from-there.ensures
+    c.eq.ensures ∙ specs_alike c.args.spec.now c.spec-there.result _ _ c.tags.ensures c.tags-2.ensures ∙ ap (same_spec_lem (spec_of c.args.spec.now)) c.spec-there.ensures

@@ -9,7 +9,7 @@ loop-i-init g c = (lists_start _ _ (task_at c.args.home.now c.args.live.now) c.a
 
 pub loop-i-preserved : goal.loop-i-preserved
 loop-i-preserved g c = (
-  lists_more _ _ (task_at c.args.home.now c.args.live.now) c.loop-i.i c.loop-i.invariant.0 (lists_as _ _ (ap (λ (r : List ℕ). task_slot r (at c.args.live.now (256 + c.loop-i.i))) c.task_row.ensures.is) c.put_row-listed.ensures.lists),
+  lists_more _ _ (task_at c.args.home.now c.args.live.now) c.loop-i.i c.loop-i.invariant.0 (lists_as _ _ (ap (λ (r : List ℕ). task_slot r (at c.args.live.now (256 + c.loop-i.i))) c.row.ensures) c.put_row-listed.ensures.lists),
   omega (arith, c.loop-i.invariant.1, c.put_row-listed.ensures.room),
   omega (arith, c.loop-i.invariant.2, c.put_row-listed.ensures.few),
 )

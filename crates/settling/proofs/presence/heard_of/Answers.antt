@@ -12,5 +12,5 @@ pub returns : goal.returns
 returns c =
     let p = is_present c.args.time c.args.num.0 in
     let f = machine_at c.args.home.now c.args.live.now in
-    let n = c.machine_rows.result in
-    any_from_yields_List (λ i. some p (f i)) _ _ _ c.any.ensures.ran (YieldsList-from_range 0 n n refl (omega arith)) (λ x b q k. search rules) ∙ some_each p f 0 n ∙ ap (λ (k : ℕ). some p (span f 0 k)) c.machine_rows.ensures.is
+    let n = c.in_use.result in
+    any_from_yields_List (λ i. some p (f i)) _ _ _ c.any.ensures.ran (YieldsList-from_range 0 n n refl (omega arith)) (λ x b q k. search rules) ∙ some_each p f 0 n ∙ ap (λ (k : ℕ). some p (span f 0 k)) c.in_use.ensures.is

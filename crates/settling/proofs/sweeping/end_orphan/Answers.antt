@@ -7,22 +7,23 @@ use Rattle.jobs.specs.Tables.{name_from_lem, task_row_lem, task_from, job_at, jo
 use Rattle.jobs.specs.Values.{name_of}
 use Rattle.settling.proofs.Tallies.{row_full, row_hole, job_is}
 use Rattle.settling.proofs.Sweeps.{orphan_hole, orphan_wanted, orphan_put, unfound, found_one}
+use Rattle.jobs.proofs.Ranges.{hole, no_hole}
 use Rattle.settling.proofs.sweeping.end_orphan.Goals as goal
 
-pub returns-then-row-eq0 : goal.returns-then-row-eq0
-returns-then-row-eq0 c = λ live. orphan_hole c.args.home.now live c.args.i (row_hole c.args.home.now live c.task_row-row.result.now c.args.i c.task_row-row.ensures.is c.if-row-eq0.true)
+pub returns-then-is_hole : goal.returns-then-is_hole
+returns-then-is_hole c = λ live. orphan_hole c.args.home.now live c.args.i (row_hole c.args.home.now live c.row-row.result.words.now c.args.i c.row-row.ensures (hole c.is_hole.ensures c.if-is_hole.true))
 
 pub returns-then-is_none : goal.returns-then-is_none
 returns-then-is_none c = λ live.
     let home = c.args.home.now in
-    let n : name_of c.name_from-name.result ≡ name_from_lem (drop 4 (task_row_lem home c.args.i)) = c.name_from-name.ensures ∙ job_is home live c.args.i c.task_row-row.result.now c.task_kind.result.now c.task_row-row.ensures.is c.task_kind.ensures.is in
-    orphan_put home live c.end_task.new.home c.args.i (task_from (task_row_lem home c.args.i) (at live _)) (row_full home live c.task_row-row.result.now c.args.i c.task_row-row.ensures.is c.if-row-eq0.false)
-    (ap (λ (x : s.Name). find (is_job x) (jobs_of home)) (sym n) ∙ unfound (is_job (name_of c.name_from-name.result)) (job_at home) (job_rows_lem home) c.find_job.result (c.is_none.ensures ∙ ap not c.if-is_none.true) c.find_job.ensures) (c.end_task.ensures live)
+    let n : name_of c.name-name.result ≡ name_from_lem (drop 4 (task_row_lem home c.args.i)) = c.name-name.ensures ∙ job_is home live c.args.i c.row-row.result.words.now c.kind.result.words.now c.row-row.ensures c.kind.ensures in
+    orphan_put home live c.end_task.new.home c.args.i (task_from (task_row_lem home c.args.i) (at live _)) (row_full home live c.row-row.result.words.now c.args.i c.row-row.ensures (no_hole c.is_hole.ensures c.if-is_hole.false))
+    (ap (λ (x : s.Name). find (is_job x) (jobs_of home)) (sym n) ∙ unfound (is_job (name_of c.name-name.result)) (job_at home) (job_rows_lem home) c.find_job.result (c.is_none.ensures ∙ ap not c.if-is_none.true) c.find_job.ensures) (c.end_task.ensures live)
 
 pub returns-else-is_none : goal.returns-else-is_none
 returns-else-is_none c = λ live.
     let home = c.args.home.now in
-    let n : name_of c.name_from-name.result ≡ name_from_lem (drop 4 (task_row_lem home c.args.i)) = c.name_from-name.ensures ∙ job_is home live c.args.i c.task_row-row.result.now c.task_kind.result.now c.task_row-row.ensures.is c.task_kind.ensures.is in
-    let k = found_one (is_job (name_of c.name_from-name.result)) (job_at home) (job_rows_lem home) c.find_job.result (c.is_none.ensures ∙ ap not c.if-is_none.false) c.find_job.ensures in
-    orphan_wanted home live c.args.i (task_from (task_row_lem home c.args.i) (at live _)) k.0 (row_full home live c.task_row-row.result.now c.args.i c.task_row-row.ensures.is c.if-row-eq0.false)
+    let n : name_of c.name-name.result ≡ name_from_lem (drop 4 (task_row_lem home c.args.i)) = c.name-name.ensures ∙ job_is home live c.args.i c.row-row.result.words.now c.kind.result.words.now c.row-row.ensures c.kind.ensures in
+    let k = found_one (is_job (name_of c.name-name.result)) (job_at home) (job_rows_lem home) c.find_job.result (c.is_none.ensures ∙ ap not c.if-is_none.false) c.find_job.ensures in
+    orphan_wanted home live c.args.i (task_from (task_row_lem home c.args.i) (at live _)) k.0 (row_full home live c.row-row.result.words.now c.args.i c.row-row.ensures (no_hole c.is_hole.ensures c.if-is_hole.false))
     (ap (λ (x : s.Name). find (is_job x) (jobs_of home)) (sym n) ∙ k.1)

@@ -10,10 +10,10 @@ loop-i-init c = λ live. risen_none c.args.home.now live
 pub loop-i-preserved : goal.loop-i-preserved
 loop-i-preserved c =
     let home = c.args.home.now in
-    let row = c.task_row.result.now in
+    let row = c.row.result.words.now in
     elim c.if-id-ne0.branch [
-      | then-id-ne0+else-id-last w ↦ rw w.last-is (λ live. risen_more home live row c.loop-i.i c.loop-i.last c.task_row.ensures.is w.if-id-ne0.true (omega arith) (c.loop-i.invariant live))
-      | else-id-ne0 w ↦ rw w.last-is (λ live. risen_hole home live row c.loop-i.i c.loop-i.last c.task_row.ensures.is w.if-id-ne0.false (c.loop-i.invariant live))
+      | then-id-ne0+else-id-last w ↦ rw w.last-is (λ live. risen_more home live row c.loop-i.i c.loop-i.last c.row.ensures w.if-id-ne0.true (omega arith) (c.loop-i.invariant live))
+      | else-id-ne0 w ↦ rw w.last-is (λ live. risen_hole home live row c.loop-i.i c.loop-i.last c.row.ensures w.if-id-ne0.false (c.loop-i.invariant live))
     ]
 
 pub returns : goal.returns

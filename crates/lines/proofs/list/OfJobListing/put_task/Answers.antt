@@ -6,5 +6,5 @@ use Rattle.lines.proofs.list.OfJobListing.put_task.Goals as goal
 
 pub returns-clause-bytes : goal.returns-clause-bytes
 returns-clause-bytes c =
-    line_put c.args.row.now c.args.ready _ _ _ (c.version_from.ensures ∙ ap version_from_lem c.task_kind.ensures.is) (c.phase_number.ensures ∙ ap phase_of c.phase_from-phase.ensures.phase)
-    (c.machine_number.ensures ∙ c.phase_from-phase.ensures.machine) c.put_number-end.ensures.bytes c.put_number-end-2.ensures.bytes c.put_u8-end.ensures.bytes c.put_number.ensures.bytes
+    line_put c.args.row.now c.args.ready _ _ _ (c.version.ensures ∙ ap version_from_lem c.kind.ensures) (c.phase_number.ensures ∙ ap phase_of c.phase-phase.ensures.phase)
+    (c.machine_number.ensures ∙ c.phase-phase.ensures.machine) c.put_number-end.ensures.bytes c.put_number-end-2.ensures.bytes c.put_u8-end.ensures.bytes c.put_number.ensures.bytes
