@@ -23,7 +23,7 @@ fn is_numbered(home: &[u64]) -> bool
 {
     let mut last = 0;
     for i in 0..TASKS.in_use(home) {
-        let id = TASKS.row(home, i).id().0;
+        let id = TASKS.row(home, i).words[0];
         if id != 0 {
             if id <= last {
                 return false;

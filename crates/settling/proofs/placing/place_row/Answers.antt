@@ -1,5 +1,4 @@
 use Rattle.std.proofs.Common.{◌≡◌, ℕ, ◌+◌, ◌==◌, true, List, sym, ap, ◌∙◌}
-use Rattle.std.proofs.lemmas.Bool.{eq-eqb, ne_eqb}
 use Rattle.model.specs.State.{is_waiting}
 use Rattle.jobs.specs.Rows.{at}
 use Rattle.jobs.specs.Tables.{task_row_lem}
