@@ -55,8 +55,7 @@ fn take(home: &mut [u64], live: &mut [u64], time: u64, i: usize, report: Reporte
     requires flags { live_words ≤ length live.old }
     requires fine { Fine (state_of home.old live.old time) }
     requires there { HeardIn report.machine.0 i home.old live.old }
-    ensures state { state_of home.new live.new time ≡ settled (heard report.entry.machine.0 report.entry.life.0 report.entry.number.0 (seens_of report.entry.tasks.now) (state_of home.old live.old time)) }
-    ensures long { (length home.new ≡ length home.old) × (length live.new ≡ length live.old) }
+    ensures { state_of home.new live.new time ≡ settled (heard report.entry.machine.0 report.entry.life.0 report.entry.number.0 (seens_of report.entry.tasks.now) (state_of home.old live.old time)) }
 {
     hear(home, live, report);
     machine_rows::hear(home, live, i, report.life, report.number, time);

@@ -8,4 +8,4 @@ returns-then-row-eq0 c = machine_hole c.args.home.now c.machine_row-row.result.n
 pub returns : goal.returns
 returns c =
     c.eq.ensures ∙
-    machine_found c.args.home.now c.machine_row-row.result.now c.args.i c.requires.within c.machine_row-row.ensures.is c.if-row-eq0.false c.find_machine.result (c.find_machine.ensures [])
+    machine_found c.args.home.now c.machine_row-row.result.now c.args.i c.requires.within c.machine_row-row.ensures.is c.if-row-eq0.false c.machine_number.result.0 c.machine_number.ensures c.find_machine.result (c.find_machine.ensures [])
