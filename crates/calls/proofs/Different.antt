@@ -141,8 +141,10 @@ pub machine_hole : (home row : List ℕ) (i : ℕ) → row ≡ machine_row_lem h
 machine_hole home row i q z = new_hole alike_machines turn_machines (machine_at home []) i (ap (λ (r : List ℕ). machine_slot r (at [] i)) (sym q) ∙ slot_hole (at row 0) (machine_from row (at [] i)) z)
 
 module _ (home row : List ℕ) (i : ℕ) (h : i < machine_rows_lem home) (q : row ≡ machine_row_lem home i) (ne : at row 0 ≡ 0 → ⊥) where
-  pub machine_found : (o : Option ℕ) → FoundAt (is_machine (at row 1 % 65536)) (machine_at home []) (machine_rows_lem home) o → option_eq eqb o (Some i) ≡ first_machine_lem home i
-  machine_found o w = new_found alike_machines turn_machines (machine_at home []) i (machine_rows_lem home) (machine_from row (at [] i)) h (machine_in home row i q ne) (eq-eqb _ _ refl) o w
+  pub machine_found : (k : ℕ) → k ≡ at row 1 % 65536 → (o : Option ℕ) → FoundAt (is_machine k) (machine_at home []) (machine_rows_lem home) o → option_eq eqb o (Some i) ≡ first_machine_lem home i
+  machine_found k named o w =
+      new_found alike_machines turn_machines (machine_at home []) i (machine_rows_lem home) (machine_from row (at [] i)) h (machine_in home row i q ne) (eq-eqb _ _ refl) o
+      (subst (λ (m : ℕ). FoundAt (is_machine m) (machine_at home []) (machine_rows_lem home) o) named w)
 
 pub machines_each : (home : List ℕ) (n : ℕ) → n ≡ machine_rows_lem home → list_all (first_machine_lem home) (range_with_len 0 n) ≡ once_machines (machines_of home [])
 machines_each home n q =

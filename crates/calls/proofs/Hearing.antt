@@ -1,11 +1,18 @@
 -- What a report makes of one task, case by case.
 -- Assumes nothing.
-use Rattle.std.proofs.Common.{◌≡◌, ℕ, Bool, true, false, cond, not, ◌&&◌, eqb, List, [], ◌∷◌, ◌++◌, sym, refl, inl, inr, append_assoc}
-use Rattle.std.proofs.lemmas.Bool.{eq-eqb, ne_eqb, true≢false, cases_Bool}
+use Rattle.std.proofs.Common.{◌≡◌, ℕ, Bool, true, false, cond, not, ◌&&◌, eqb, List, [], ◌∷◌, ◌++◌, sym, refl, ◌∙◌, inl, inr, append_assoc}
+use Rattle.std.proofs.lemmas.Bool.{eq-eqb, ne_eqb, eqb-true, eqb-false, not-true, not-false, true≢false, cases_Bool}
 use Rattle.model.specs.State.{Task, Phase, Waiting, Told, Ready, Ending, is_waiting, is_ending}
 use Rattle.model.specs.Calls.{Seen, seen_as, heard_of_lem, heard_all}
 use Rattle.jobs.specs.Changes.{mark_each, marked_phase}
 use Rattle.calls.proofs.Sweep.{Each}
+
+-- what a test of two numbers told
+pub told_same : (a b : ℕ) (r : Bool) → r ≡ not (eqb a b) → r ≡ false → a ≡ b
+told_same a b r e f = eqb-true a b (not-false _ (sym e ∙ f))
+
+pub told_other : (a b : ℕ) (r : Bool) → r ≡ not (eqb a b) → r ≡ true → a ≡ b → ⊥
+told_other a b r e t = eqb-false a b (not-true _ (sym e ∙ t))
 
 -- a task that waits is on no machine
 pub hear_waits : (k l : ℕ) (xs : List Seen) (t : Task) → t.phase ≡ Waiting → heard_all k l xs (t ∷ []) ≡ t ∷ []

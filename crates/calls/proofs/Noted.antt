@@ -48,8 +48,5 @@ module _ (k l n i time : ℕ) (xs : List Seen) (home live h1 l1 h2 l2 : List ℕ
     pub noted_tidy : Tidy (state_of h2 l2 time)
     noted_tidy = subst Tidy (sym noted_state) (fine_heard k l n xs (state_of home live time) fine).tidy
 
-    pub noted_long : (length h2 ≡ length home) × (length l2 ≡ length live)
-    noted_long = (b.long ∙ a.frame.long, b.long_live ∙ a.frame.long_live)
-
     pub noted_settled : (h3 l3 : List ℕ) → Became (settle (state_of h2 l2 time)) h2 l2 h3 l3 time → state_of h3 l3 time ≡ settle (heard k l n xs (state_of home live time))
     noted_settled h3 l3 c = c.state ∙ ap settle noted_state

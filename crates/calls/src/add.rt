@@ -48,8 +48,7 @@ fn machine(added: Added) -> Machine
 fn put(home: &mut [u64], live: &mut [u64], added: Added) -> Result<(), Refusal>
     requires words { home_words_lem ≤ length home.old }
     requires flags { live_words ≤ length live.old }
-    ensures put { Put added.entry home.old live.old home.new live.new result }
-    ensures long { (length home.new ≡ length home.old) × (length live.new ≡ length live.old) }
+    ensures { Put added.entry home.old live.old home.new live.new result }
 {
     if find_machine(home, added.machine).is_some() {
         return Err(Refusal::Present);

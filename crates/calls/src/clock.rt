@@ -25,8 +25,7 @@ fn go_on(home: &mut [u64], live: &mut [u64], time: u64)
     requires words { home_words_lem ≤ length home.old }
     requires flags { live_words ≤ length live.old }
     requires fine { Fine (state_of home.old live.old time) }
-    ensures state { state_of home.new live.new time ≡ settled (timed time (state_of home.old live.old time)) }
-    ensures long { (length home.new ≡ length home.old) × (length live.new ≡ length live.old) }
+    ensures { state_of home.new live.new time ≡ settled (timed time (state_of home.old live.old time)) }
 {
     doubt(home, live, time);
     settle(home, live, time);

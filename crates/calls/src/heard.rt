@@ -15,10 +15,10 @@ use jobs::phase::{Phase, Place};
 fn heard_there(place: Place, ending: bool, id: TaskId, report: Reported) -> Heard
     ensures { (t : Task) → is_waiting t.phase ≡ false → is_ending t.phase ≡ ending → t.id ≡ id.0 → t.machine ≡ place.machine.0 → t.life ≡ place.life.0 → HeardAs report.entry.machine.0 report.entry.life.0 (seens_of report.entry.tasks.now) t result }
 {
-    if report.machine.0 != place.machine.0 {
+    if report.machine != place.machine {
         return Heard::Stays;
     }
-    if report.life.0 != place.life.0 {
+    if report.life != place.life {
         return Heard::Gone;
     }
     match seen(report.tasks, id) {

@@ -14,7 +14,7 @@ use crate::answer::{Answer, Refusal, RunOn};
 use crate::call::Reported;
 use crate::sweeps::hear;
 use jobs::finding::find_machine;
-use jobs::ids::LAST;
+use jobs::ids::{LAST, Life, ReportNumber};
 use jobs::machine_rows;
 use jobs::rows::machine_row;
 use settling::pass::settle;
@@ -27,10 +27,10 @@ fn out_of_range(report: Reported) -> bool
 }
 
 // Is the report no news, where a machine's row has this life and number.
-fn stale(report: Reported, life: u64, number: u64) -> bool
-    ensures { result ≡ stale_for report.entry life number }
+fn stale(report: Reported, life: Life, number: ReportNumber) -> bool
+    ensures { result ≡ stale_for report.entry life.0 number.0 }
 {
-    report.life.0 < life || (report.life.0 == life && report.number.0 <= number)
+    (report.life, report.number) <= (life, number)
 }
 
 // The row of the report's machine, where the report is news.
@@ -43,7 +43,7 @@ fn check(home: &[u64], report: Reported) -> Result<usize, Refusal>
     }
     let i = find_machine(home, report.machine).ok_or(Refusal::Unknown)?;
     let row = machine_row(home, i);
-    if stale(report, row[5], row[6]) {
+    if stale(report, Life(row[5]), ReportNumber(row[6])) {
         return Err(Refusal::Stale);
     }
     Ok(i)
@@ -55,8 +55,7 @@ fn take(home: &mut [u64], live: &mut [u64], time: u64, i: usize, report: Reporte
     requires flags { live_words ≤ length live.old }
     requires fine { Fine (state_of home.old live.old time) }
     requires there { HeardIn report.machine.0 i home.old live.old }
-    ensures state { state_of home.new live.new time ≡ settled (heard report.entry.machine.0 report.entry.life.0 report.entry.number.0 (seens_of report.entry.tasks.now) (state_of home.old live.old time)) }
-    ensures long { (length home.new ≡ length home.old) × (length live.new ≡ length live.old) }
+    ensures { state_of home.new live.new time ≡ settled (heard report.entry.machine.0 report.entry.life.0 report.entry.number.0 (seens_of report.entry.tasks.now) (state_of home.old live.old time)) }
 {
     hear(home, live, report);
     machine_rows::hear(home, live, i, report.life, report.number, time);

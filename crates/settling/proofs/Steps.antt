@@ -1,6 +1,6 @@
 -- A job's step, by the ways through it.
 -- Assumes nothing.
-use Rattle.std.proofs.Common.{◌≡◌, ℕ, ◌<◌, ◌≤◌, true, false, not, eqb, ltb, List, [], ◌∷◌, ◌++◌, length, Some, Option, sym, ap, ◌∙◌, subst}
+use Rattle.std.proofs.Common.{◌≡◌, ℕ, ◌<◌, ◌≤◌, true, false, not, eqb, ltb, List, [], ◌∷◌, ◌++◌, length, Some, sym, ap, ◌∙◌, subst}
 use Rattle.std.proofs.lemmas.Bool.{eq-eqb, ne_eqb}
 use Rattle.model.specs.Lists.{none}
 use Rattle.model.specs.State as s
@@ -58,10 +58,6 @@ jobs_one home j st row r ne = sym (ap (λ (js : List s.Job). for_jobs js st) (fu
 pub jobs_none : (home : List ℕ) (j : ℕ) (st : s.State) (row : List ℕ) → row ≡ job_row_lem home j → at row 0 ≡ 0 → st ≡ for_jobs (job_at home j) st
 unfolding for_jobs
 jobs_none home j st row r z = sym (ap (λ (js : List s.Job). for_jobs js st) (hole (eqb (at (job_row_lem home j) 0) 0) (job_from_lem (job_row_lem home j)) (eq-eqb (at (job_row_lem home j) 0) 0 (sym (ap (λ (x : List ℕ). at x 0) r) ∙ z))))
-
--- what a pick says
-pub one_at : (f : ℕ → List s.Task) (n : ℕ) (o p q : Option ℕ) (xs : List s.Task) → o ≡ p → o ≡ q → OneAt f n p xs → OneAt f n q xs
-one_at f n o p q xs e g k = subst (λ (z : Option ℕ). OneAt f n z xs) (sym e ∙ g) k
 
 module _ (j : s.Job) (home live : List ℕ) (time : ℕ) (fits : home_words_lem ≤ length home) (num : Numbered (state_of home live time)) where
   -- an older one ends, and a new one may come

@@ -1,4 +1,4 @@
-use Rattle.std.proofs.Common.{◌≡◌, ℕ, ◌<◌, ◌∷◌, [], ◌++◌, length, get_or, take, sym, refl, ap, ◌∙◌, subst, rules}
+use Rattle.std.proofs.Common.{◌≡◌, ℕ, ◌<◌, ◌∷◌, [], ◌++◌, get_or, take, sym, refl, ap, ◌∙◌, subst, rules}
 use Rattle.std.proofs.lemmas.Result.{err_from_is_err_and}
 use Rattle.model.specs.State.{with_machines}
 use Rattle.model.specs.Calls.{new_machine, yes'}
@@ -12,13 +12,13 @@ pub returns-then-is_some : goal.returns-then-is_some
 returns-then-is_some c =
     let a = c.args.added in
     let found = unfound a.machine.0 c.args.home.now c.args.live.now c.find_machine.result (c.find_machine.ensures c.args.live.now) (sym c.if-is_some.ensures) in
-    record { put = (λ time. add_present a.machine.0 a.cpu a.mem (tags_of a.tags.now) (state_of c.args.home.now c.args.live.now time) found, refl, refl); long = (refl, refl) }
+    (λ time. add_present a.machine.0 a.cpu a.mem (tags_of a.tags.now) (state_of c.args.home.now c.args.live.now time) found, refl, refl)
 
 pub returns-then-too_much : goal.returns-then-too_much
 returns-then-too_much c =
     let a = c.args.added in
     let found = unfound a.machine.0 c.args.home.now c.args.live.now c.find_machine.result (c.find_machine.ensures c.args.live.now) (sym c.if-is_some.ensures) in
-    record { put = (λ time. add_much a.machine.0 a.cpu a.mem (tags_of a.tags.now) (state_of c.args.home.now c.args.live.now time) found (tested a _ (sym c.if-too_much.ensures)), refl, refl); long = (refl, refl) }
+    (λ time. add_much a.machine.0 a.cpu a.mem (tags_of a.tags.now) (state_of c.args.home.now c.args.live.now time) found (tested a _ (sym c.if-too_much.ensures)), refl, refl)
 
 pub returns-in_err-add_machine : goal.returns-in_err-add_machine
 returns-in_err-add_machine c =
@@ -31,10 +31,7 @@ returns-in_err-add_machine c =
     let small = small_tags m.count m.tags (tags_of a.tags.now) e.tags fits in
     let p = err_from_is_err_and c.from_residual.result c.from_residual.ensures.1 in
     let same = c.in_err-add_machine.ensures.refused in
-    rw (p.1, p.2) (record {
-      put = (λ time. add_full a.machine.0 a.cpu a.mem (tags_of a.tags.now) (state_of c.args.home.now c.args.live.now time) found (tested a _ (sym c.if-too_much.ensures)) (subst (λ (x : ℕ). x < 65536) e.num num) small (sym c.in_err-add_machine.ensures.answer), same.0, same.1);
-      long = (ap length same.0, ap length same.1);
-    })
+    rw (p.1, p.2) (λ time. add_full a.machine.0 a.cpu a.mem (tags_of a.tags.now) (state_of c.args.home.now c.args.live.now time) found (tested a _ (sym c.if-too_much.ensures)) (subst (λ (x : ℕ). x < 65536) e.num num) small (sym c.in_err-add_machine.ensures.answer), same.0, same.1)
 
 pub returns : goal.returns
 returns c =
@@ -50,7 +47,4 @@ returns c =
     let now = c.in_ok-add_machine.ensures.added in
     let one : (time : ℕ) → with_machines (machines_of home live ++ (new_machine a.machine.0 a.cpu a.mem (tags_of a.tags.now) ∷ [])) (state_of home live time) ≡ with_machines (machines_of home live ++ (new_machine m.num.0 m.cpu m.mem (take m.count m.tags) ∷ [])) (state_of home live time) =
     λ time i. with_machines (machines_of home live ++ (new_machine (sym e.num i) (sym e.cpu i) (sym e.mem i) (sym e.tags i) ∷ [])) (state_of home live time) in
-    record {
-      put = (λ time. adds a.machine.0 a.cpu a.mem (tags_of a.tags.now) (state_of home live time) found (tested a _ (sym c.if-too_much.ensures)) (subst (λ (x : ℕ). x < 65536) e.num num) small (sym c.in_ok-add_machine.ensures.answer) ∙ ap yes' (one time ∙ sym (now.state time)), (machines_of home live ++ (new_machine m.num.0 m.cpu m.mem (take m.count m.tags) ∷ []), now.state));
-      long = (now.long, now.long_live);
-    }
+    (λ time. adds a.machine.0 a.cpu a.mem (tags_of a.tags.now) (state_of home live time) found (tested a _ (sym c.if-too_much.ensures)) (subst (λ (x : ℕ). x < 65536) e.num num) small (sym c.in_ok-add_machine.ensures.answer) ∙ ap yes' (one time ∙ sym (now.state time)), (machines_of home live ++ (new_machine m.num.0 m.cpu m.mem (take m.count m.tags) ∷ []), now.state))

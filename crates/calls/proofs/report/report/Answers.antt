@@ -1,14 +1,11 @@
-use Rattle.std.proofs.Common.{refl}
 use Rattle.calls.proofs.Outcomes.{acted_no, acted_run}
 use Rattle.calls.proofs.report.report.Goals as goal
 
-pub returns-in-Err : goal.returns-in-Err
-returns-in-Err c = record { acted = acted_no _ _ _ _ _ (c.in-Err.ensures c.args.live.now c.args.time); long = (refl, refl) }
+pub returns-in-Err-clause-acted : goal.returns-in-Err-clause-acted
+returns-in-Err-clause-acted c = acted_no _ _ _ _ _ (c.in-Err.ensures c.args.live.now c.args.time)
 
-pub take-requires : goal.take-requires
-take-requires c = let f = c.in-Ok.ensures c.args.live.now c.args.time in record { words = c.requires.words; flags = c.requires.flags; fine = c.requires.fine; there = f.0 }
+pub take-requires-clause-there : goal.take-requires-clause-there
+take-requires-clause-there c = (c.in-Ok.ensures c.args.live.now c.args.time).0
 
-pub returns-in-Ok : goal.returns-in-Ok
-returns-in-Ok c =
-    let f = c.in-Ok.ensures c.args.live.now c.args.time in
-    record { acted = acted_run c.args.report _ _ _ _ c.args.time _ f.1 c.take.ensures.state; long = c.take.ensures.long }
+pub returns-in-Ok-clause-acted : goal.returns-in-Ok-clause-acted
+returns-in-Ok-clause-acted c = acted_run c.args.report _ _ _ _ c.args.time _ (c.in-Ok.ensures c.args.live.now c.args.time).1 c.take.ensures

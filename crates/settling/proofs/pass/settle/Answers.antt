@@ -1,20 +1,19 @@
-use Rattle.std.proofs.Common.{rules}
 use Rattle.settling.proofs.Placements.{swept_numbered, stepped_numbered, passed, good_stays, numbered_stays}
 use Rattle.settling.proofs.pass.settle.Goals as goal
 
-pub step_jobs-requires : goal.step_jobs-requires
-step_jobs-requires c =
+pub step_jobs-requires-clause-numbered : goal.step_jobs-requires-clause-numbered
+step_jobs-requires-clause-numbered c =
     let home = c.args.home.now in
     let live = c.args.live.now in
     let mid = c.end_orphans.new.home in
-    record { words = search rules; flags = c.requires.flags; numbered = swept_numbered home live mid home live home live c.args.time c.requires.words c.requires.numbered (c.end_orphans.ensures live) }
+    swept_numbered home live mid home live home live c.args.time c.requires.words c.requires.numbered (c.end_orphans.ensures live)
 
-pub place_all-requires : goal.place_all-requires
-place_all-requires c =
+pub place_all-requires-clause-numbered : goal.place_all-requires-clause-numbered
+place_all-requires-clause-numbered c =
     let home = c.args.home.now in
     let live = c.args.live.now in
     let mid = c.end_orphans.new.home in
-    record { words = search rules; flags = search rules; size = search rules; numbered = stepped_numbered home live mid c.step_jobs.new.home c.step_jobs.new.live home live c.args.time c.requires.words c.requires.numbered (c.end_orphans.ensures live) c.step_jobs.ensures }
+    stepped_numbered home live mid c.step_jobs.new.home c.step_jobs.new.live home live c.args.time c.requires.words c.requires.numbered (c.end_orphans.ensures live) c.step_jobs.ensures
 
 pub returns : goal.returns
 returns c =
