@@ -16,7 +16,7 @@ use crate::sweeps::hear;
 use jobs::finding::find_machine;
 use jobs::ids::{LAST, Life, ReportNumber};
 use jobs::machine_rows;
-use jobs::rows::machine_row;
+use jobs::rows::MACHINES;
 use settling::pass::settle;
 
 // Is a number of the report above 2^62, or are there more than 2,048 tasks.
@@ -42,8 +42,8 @@ fn check(home: &[u64], report: Reported) -> Result<usize, Refusal>
         return Err(Refusal::Malformed);
     }
     let i = find_machine(home, report.machine).ok_or(Refusal::Unknown)?;
-    let row = machine_row(home, i);
-    if stale(report, Life(row[5]), ReportNumber(row[6])) {
+    let row = MACHINES.row(home, i);
+    if stale(report, row.life(), row.number()) {
         return Err(Refusal::Stale);
     }
     Ok(i)

@@ -20,7 +20,7 @@ use jobs::finding::find_job;
 use jobs::job::Job;
 use jobs::job_rows::{add_job, put_job};
 use jobs::layout::MAX_TASKS;
-use jobs::rows::job_row;
+use jobs::rows::JOBS;
 use jobs::sums::sum_of_mosts;
 use settling::pass::settle;
 
@@ -40,7 +40,7 @@ fn reset_job(home: &mut [u64], i: usize, job: Job) -> Result<(), Refusal>
     requires within { i < job_rows_lem home.old }
     ensures { (x : s.Job) → job_at home.old i ≡ x ∷ [] → is_job (job_of job).name x ≡ true → find (is_job (job_of job).name) (span (job_at home.old) 0 i) ≡ [] → DoneAs (sets_as (job_of job) (x ∷ [])) home.old home.new result }
 {
-    let version = next_version(&job_row(home, i)[0..23], &job.spec).ok_or(Refusal::Full)?;
+    let version = next_version(JOBS.row(home, i).kind(), &job.spec).ok_or(Refusal::Full)?;
     put_job(home, i, Job { version, ..job });
     Ok(())
 }

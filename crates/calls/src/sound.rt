@@ -9,10 +9,7 @@ ghost use Rattle.calls.specs.Sound.{first_job_lem, first_machine_lem, sound_task
 
 use jobs::finding::{find_job, find_machine};
 use jobs::layout::LAST_ID;
-use jobs::naming::name_from;
-use jobs::rows::{
-    job_row, job_rows, machine_number, machine_row, machine_rows, task_row, task_rows,
-};
+use jobs::rows::{JOBS, MACHINES, TASKS};
 
 // Is the job in row `i`, if there is one, the first of its name.
 fn first_job(home: &[u64], i: usize) -> bool
@@ -20,11 +17,11 @@ fn first_job(home: &[u64], i: usize) -> bool
     requires within { i < job_rows_lem home.now }
     ensures { result ≡ first_job_lem home.now i }
 {
-    let row = job_row(home, i);
-    if row[0] == 0 {
+    let row = JOBS.row(home, i);
+    if row.is_hole() {
         return true;
     }
-    find_job(home, &name_from(&row[0..23])) == Some(i)
+    find_job(home, &row.kind().name()) == Some(i)
 }
 
 // Is the machine in row `i`, if there is one, the first of its number.
@@ -33,11 +30,11 @@ fn first_machine(home: &[u64], i: usize) -> bool
     requires within { i < machine_rows_lem home.now }
     ensures { result ≡ first_machine_lem home.now i }
 {
-    let row = machine_row(home, i);
-    if row[0] == 0 {
+    let row = MACHINES.row(home, i);
+    if row.is_hole() {
         return true;
     }
-    find_machine(home, machine_number(row[1])) == Some(i)
+    find_machine(home, row.num()) == Some(i)
 }
 
 // Have all jobs different names.
@@ -45,7 +42,7 @@ fn sound_jobs(home: &[u64]) -> bool
     requires { home_words_lem ≤ length home.now }
     ensures { result ≡ once_jobs (jobs_of home.now) }
 {
-    (0..job_rows(home)).all(|i| first_job(home, i))
+    (0..JOBS.in_use(home)).all(|i| first_job(home, i))
 }
 
 // Have all machines different numbers.
@@ -53,7 +50,7 @@ fn sound_machines(home: &[u64]) -> bool
     requires { home_words_lem ≤ length home.now }
     ensures { result ≡ once_machines (machines_of home.now []) }
 {
-    (0..machine_rows(home)).all(|i| first_machine(home, i))
+    (0..MACHINES.in_use(home)).all(|i| first_machine(home, i))
 }
 
 // Do the tasks' numbers rise, and are they all given.
@@ -62,8 +59,8 @@ fn sound_tasks(home: &[u64]) -> bool
     ensures { result ≡ sound_tasks_lem (at home.now 0) (tasks_of home.now []) }
 {
     let mut last = 0;
-    for i in 0..task_rows(home) {
-        let id = task_row(home, i)[0];
+    for i in 0..TASKS.in_use(home) {
+        let id = TASKS.row(home, i).words[0];
         if id != 0 {
             if id <= last || id > home[LAST_ID] {
                 return false;

@@ -12,11 +12,10 @@ ghost use Rattle.calls.specs.Meaning.{seens_of};
 use crate::call::Reported;
 use crate::heard::heard;
 use crate::outcome::Heard;
-use jobs::ids::TaskId;
 use jobs::layout::READY_BASE;
 use jobs::phase::Phase;
-use jobs::rows::{task_row, task_rows};
-use jobs::tasks::{mark_task, phase_from, remove_task};
+use jobs::rows::TASKS;
+use jobs::tasks::{mark_task, remove_task};
 use settling::presence::heard_of;
 
 // What a report makes of the task in row `i`.
@@ -26,12 +25,11 @@ fn hear_task(home: &mut [u64], live: &mut [u64], i: usize, report: Reported)
     requires within { i < 2048 }
     ensures { TaskPut i (heard_all report.entry.machine.0 report.entry.life.0 (seens_of report.entry.tasks.now) (task_at home.old live.old i)) home.old live.old home.new live.new }
 {
-    let row = task_row(home, i);
-    if row[0] == 0 {
+    let row = TASKS.row(home, i);
+    if row.is_hole() {
         return;
     }
-    let id = TaskId(row[0]);
-    match heard(phase_from(row, live[READY_BASE + i]), id, report) {
+    match heard(row.phase(live[READY_BASE + i]), row.id(), report) {
         Heard::Stays => {}
         Heard::Gone => remove_task(home, i),
         Heard::Marked(ready) => mark_task(live, i, ready),
@@ -44,7 +42,7 @@ pub fn hear(home: &mut [u64], live: &mut [u64], report: Reported)
     requires flags { live_words ≤ length live.old }
     ensures { TasksNow (heard_all report.entry.machine.0 report.entry.life.0 (seens_of report.entry.tasks.now) (tasks_of home.old live.old)) home.old live.old home.new live.new }
 {
-    for i in 0..task_rows(home) {
+    for i in 0..TASKS.in_use(home) {
         hear_task(home, live, i, report);
     }
 }
@@ -68,11 +66,11 @@ fn doubt_task(home: &[u64], live: &mut [u64], i: usize, time: u64)
     requires within { i < 2048 }
     ensures { TaskPut i (map (unsure time (machines_of home.now live.old)) (task_at home.now live.old i)) home.now live.old home.now live.new }
 {
-    let row = task_row(home, i);
-    if row[0] == 0 {
+    let row = TASKS.row(home, i);
+    if row.is_hole() {
         return;
     }
-    let phase = phase_from(row, live[READY_BASE + i]);
+    let phase = row.phase(live[READY_BASE + i]);
     if doubtful(home, live, phase, time) {
         mark_task(live, i, false);
     }
@@ -84,7 +82,7 @@ pub fn doubt(home: &[u64], live: &mut [u64], time: u64)
     requires flags { live_words ≤ length live.old }
     ensures { TasksNow (map (unsure time (machines_of home.now live.old)) (tasks_of home.now live.old)) home.now live.old home.now live.new }
 {
-    for i in 0..task_rows(home) {
+    for i in 0..TASKS.in_use(home) {
         doubt_task(home, live, i, time);
     }
 }

@@ -7,7 +7,7 @@ ghost use Rattle.jobs.specs.Values.{spec_of};
 ghost use Rattle.calls.specs.Versions.{NextAs};
 
 use jobs::ids::Version;
-use jobs::kinds::{spec_from, version_from};
+use jobs::rows::Kind;
 use jobs::spec::Spec;
 
 // The tags that count.
@@ -18,21 +18,19 @@ fn tags(spec: &Spec) -> &[u32]
 }
 
 // Is that the spec in a kind.
-pub fn same_spec(kind: &[u64], spec: &Spec) -> bool
-    requires { length kind.now ≡ 23 }
-    ensures { result ≡ same_spec_lem (spec_of spec.now) (spec_from_lem kind.now) }
+pub fn same_spec(kind: Kind, spec: &Spec) -> bool
+    ensures { result ≡ same_spec_lem (spec_of spec.now) (spec_from_lem kind.entry.words.now) }
 {
-    let there = spec_from(kind);
+    let there = kind.spec();
     (spec.image, spec.cpu, spec.mem, tags(spec), spec.apart)
         == (there.image, there.cpu, there.mem, tags(&there), there.apart)
 }
 
 // The version of the job of that kind once its spec is this one, if there is one left.
-pub fn next_version(kind: &[u64], spec: &Spec) -> Option<Version>
-    requires { length kind.now ≡ 23 }
-    ensures { NextAs (same_spec_lem (spec_of spec.now) (spec_from_lem kind.now)) (version_from_lem kind.now) result }
+pub fn next_version(kind: Kind, spec: &Spec) -> Option<Version>
+    ensures { NextAs (same_spec_lem (spec_of spec.now) (spec_from_lem kind.entry.words.now)) (version_from_lem kind.entry.words.now) result }
 {
-    let version = version_from(kind);
+    let version = kind.version();
     if same_spec(kind, spec) {
         return Some(version);
     }

@@ -18,14 +18,14 @@ returns-in_err-i c =
 pub returns-then-stale : goal.returns-then-stale
 returns-then-stale c = λ live time.
     let f = found_as c.args.report.machine.0 c.args.home.now live _ _ c.in_ok-i.ensures.ok_part (c.find_machine.ensures live) in let w = row_news c.args.home.now live c.row-row.result.words.now c.in_ok-i.i f.0 c.row-row.ensures f.2 in
-    stale c.args.report _ (sym c.out_of_range.ensures ∙ c.if-out_of_range.false) f.0 f.3 (sym (same_stale c.args.report _ _ _ _ w.0 w.1) ∙ sym c.stale.ensures ∙ c.if-stale.true)
+    stale c.args.report _ (sym c.out_of_range.ensures ∙ c.if-out_of_range.false) f.0 f.3 (sym (same_stale c.args.report _ _ _ _ (c.life.ensures ∙ w.0) (c.number.ensures ∙ w.1)) ∙ sym c.stale.ensures ∙ c.if-stale.true)
 
 pub returns : goal.returns
 returns c = λ live time.
     let f = found_as c.args.report.machine.0 c.args.home.now live _ _ c.in_ok-i.ensures.ok_part (c.find_machine.ensures live) in let w = row_news c.args.home.now live c.row-row.result.words.now c.in_ok-i.i f.0 c.row-row.ensures f.2 in (
       (f.0, f.1, f.2, f.4, f.5),
-      news c.args.report _ (sym c.out_of_range.ensures ∙ c.if-out_of_range.false) f.0 f.3 (sym (same_stale c.args.report _ _ _ _ w.0 w.1) ∙ sym c.stale.ensures ∙ c.if-stale.false),
+      news c.args.report _ (sym c.out_of_range.ensures ∙ c.if-out_of_range.false) f.0 f.3 (sym (same_stale c.args.report _ _ _ _ (c.life.ensures ∙ w.0) (c.number.ensures ∙ w.1)) ∙ sym c.stale.ensures ∙ c.if-stale.false),
     )
 
-pub machine_row-row-requires : goal.machine_row-row-requires
-machine_row-row-requires c = record { words = c.requires; within = let f = found_as c.args.report.machine.0 c.args.home.now [] _ _ c.in_ok-i.ensures.ok_part (c.find_machine.ensures []) in omega (arith, f.1) }
+pub row-row-requires-clause-within : goal.row-row-requires-clause-within
+row-row-requires-clause-within c = let f = found_as c.args.report.machine.0 c.args.home.now [] _ _ c.in_ok-i.ensures.ok_part (c.find_machine.ensures []) in omega (arith, f.1)

@@ -1,4 +1,5 @@
-use Rattle.std.proofs.Common.{◌∙◌}
+use Rattle.std.proofs.Common.{ap, ◌∙◌}
+use Rattle.jobs.specs.Tables.{name_from_lem}
 use Rattle.calls.proofs.Different.{job_hole, job_found}
 use Rattle.jobs.proofs.Ranges.{hole, no_hole}
 use Rattle.calls.proofs.sound.first_job.Goals as goal
@@ -9,4 +10,4 @@ returns-then-is_hole c = job_hole c.args.home.now c.row-row.result.words.now c.a
 pub returns : goal.returns
 returns c =
     c.eq.ensures ∙
-    job_found c.args.home.now c.row-row.result.words.now c.args.i _ c.requires.within c.row-row.ensures (no_hole c.is_hole.ensures c.if-is_hole.false) c.name.ensures c.find_job.result c.find_job.ensures
+    job_found c.args.home.now c.row-row.result.words.now c.args.i _ c.requires.within c.row-row.ensures (no_hole c.is_hole.ensures c.if-is_hole.false) (c.name.ensures ∙ ap name_from_lem c.kind.ensures) c.find_job.result c.find_job.ensures

@@ -7,5 +7,5 @@ use Rattle.calls.proofs.sound.sound_jobs.Goals as goal
 
 pub returns : goal.returns
 returns c =
-    all_from_yields_List (first_job_lem c.args.home.now) _ _ _ c.all.ensures.ran (YieldsList-from_range 0 c.job_rows.result c.job_rows.result refl (omega arith)) (λ x b q k. search rules) ∙
-    jobs_each c.args.home.now c.job_rows.result c.job_rows.ensures.is
+    all_from_yields_List (first_job_lem c.args.home.now) _ _ _ c.all.ensures.ran (YieldsList-from_range 0 c.in_use.result c.in_use.result refl (omega arith)) (λ x b q k. search rules) ∙
+    jobs_each c.args.home.now c.in_use.result c.in_use.ensures.is

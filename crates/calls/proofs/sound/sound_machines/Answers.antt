@@ -7,5 +7,5 @@ use Rattle.calls.proofs.sound.sound_machines.Goals as goal
 
 pub returns : goal.returns
 returns c =
-    all_from_yields_List (first_machine_lem c.args.home.now) _ _ _ c.all.ensures.ran (YieldsList-from_range 0 c.machine_rows.result c.machine_rows.result refl (omega arith)) (λ x b q k. search rules) ∙
-    machines_each c.args.home.now c.machine_rows.result c.machine_rows.ensures.is
+    all_from_yields_List (first_machine_lem c.args.home.now) _ _ _ c.all.ensures.ran (YieldsList-from_range 0 c.in_use.result c.in_use.result refl (omega arith)) (λ x b q k. search rules) ∙
+    machines_each c.args.home.now c.in_use.result c.in_use.ensures.is

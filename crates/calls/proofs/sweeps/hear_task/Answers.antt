@@ -17,16 +17,16 @@ returns-then-is_hole c =
 pub returns-in-Gone : goal.returns-in-Gone
 returns-in-Gone c =
     put_as _ _ _ _ c.args.i _ _
-    (changed _ c.args.live.now c.row-row.result.words.now c.args.i c.row-row.ensures c.phase.result c.phase.ensures.phase c.phase.ensures.machine c.phase.ensures.life (no_hole c.is_hole.ensures c.if-is_hole.false) (heard_all _ _ (seens_of c.args.report.tasks.now)) (λ xs. []) c.in-Gone.ensures)
+    (changed _ c.args.live.now c.row-row.result.words.now c.args.i c.row-row.ensures c.phase.result c.phase.ensures.phase c.phase.ensures.machine c.phase.ensures.life (no_hole c.is_hole.ensures c.if-is_hole.false) (heard_all _ _ (seens_of c.args.report.tasks.now)) (λ xs. []) (λ t p i m l. c.in-Gone.ensures t p (i ∙ sym c.id.ensures) m l))
     (c.remove_task.ensures c.args.live.now)
 
 pub returns-in-Marked : goal.returns-in-Marked
 returns-in-Marked c =
     put_as _ _ _ _ c.args.i _ _
-    (changed _ c.args.live.now c.row-row.result.words.now c.args.i c.row-row.ensures c.phase.result c.phase.ensures.phase c.phase.ensures.machine c.phase.ensures.life (no_hole c.is_hole.ensures c.if-is_hole.false) (heard_all _ _ (seens_of c.args.report.tasks.now)) (mark_each c.in-Marked.ready) c.in-Marked.ensures)
+    (changed _ c.args.live.now c.row-row.result.words.now c.args.i c.row-row.ensures c.phase.result c.phase.ensures.phase c.phase.ensures.machine c.phase.ensures.life (no_hole c.is_hole.ensures c.if-is_hole.false) (heard_all _ _ (seens_of c.args.report.tasks.now)) (mark_each c.in-Marked.ready) (λ t p i m l. c.in-Marked.ensures t p (i ∙ sym c.id.ensures) m l))
     (c.mark_task.ensures c.args.home.now c.requires.words)
 
 pub returns-in-Stays : goal.returns-in-Stays
 returns-in-Stays c =
     put_same _ _ c.args.i _
-    (changed _ c.args.live.now c.row-row.result.words.now c.args.i c.row-row.ensures c.phase.result c.phase.ensures.phase c.phase.ensures.machine c.phase.ensures.life (no_hole c.is_hole.ensures c.if-is_hole.false) (heard_all _ _ (seens_of c.args.report.tasks.now)) (λ xs. xs) c.in-Stays.ensures)
+    (changed _ c.args.live.now c.row-row.result.words.now c.args.i c.row-row.ensures c.phase.result c.phase.ensures.phase c.phase.ensures.machine c.phase.ensures.life (no_hole c.is_hole.ensures c.if-is_hole.false) (heard_all _ _ (seens_of c.args.report.tasks.now)) (λ xs. xs) (λ t p i m l. c.in-Stays.ensures t p (i ∙ sym c.id.ensures) m l))
