@@ -27,5 +27,5 @@ returns c = λ live time.
       news c.args.report _ (sym c.out_of_range.ensures ∙ c.if-out_of_range.false) f.0 f.3 (sym (same_stale c.args.report _ _ _ _ (c.life.ensures ∙ w.0) (c.number.ensures ∙ w.1)) ∙ sym c.stale.ensures ∙ c.if-stale.false),
     )
 
-pub row-row-requires-clause-within : goal.row-row-requires-clause-within
-row-row-requires-clause-within c = let f = found_as c.args.report.machine.0 c.args.home.now [] _ _ c.in_ok-i.ensures.ok_part (c.find_machine.ensures []) in omega (arith, f.1)
+pub row-row-requires : goal.row-row-requires
+row-row-requires c = let f = found_as c.args.report.machine.0 c.args.home.now [] _ _ c.in_ok-i.ensures.ok_part (c.find_machine.ensures []) in (omega arith, omega arith, omega (arith, c.requires), omega (arith, f.1))
