@@ -28,4 +28,4 @@ returns c = λ live time.
     )
 
 pub row-row-requires : goal.row-row-requires
-row-row-requires c = let f = found_as c.args.report.machine.0 c.args.home.now [] _ _ c.in_ok-i.ensures.ok_part (c.find_machine.ensures []) in (omega arith, omega arith, omega (arith, c.requires), omega (arith, f.1))
+row-row-requires c = let f = found_as c.args.report.machine.0 c.args.home.now [] _ _ c.in_ok-i.ensures.ok_part (c.find_machine.ensures []) in (omega arith, (omega arith, (omega (arith, c.requires), omega (arith, f.1))))
