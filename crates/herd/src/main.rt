@@ -27,11 +27,7 @@ fn run(rt: &HostRuntime) -> Result<(), Trouble> {
 }
 
 fn main(rt: HostRuntime) -> Result<(), Trouble> {
-    match run(&rt) {
-        Ok(()) => Ok(()),
-        Err(e) => {
-            let _ = eprintln!(rt; "herd: {e}");
-            Err(e)
-        }
-    }
+    run(&rt).inspect_err(|e| {
+        let _ = eprintln!(rt; "herd: {e}");
+    })
 }

@@ -11,9 +11,7 @@ fn reply(rt: &HostRuntime, reader: &mut Reader) -> io::Result<()> {
     let bytes = answer(reader.finish());
     let mut text = [0u8; 25];
     if let Some(n) = say(&bytes, &mut text) {
-        if n <= 25 {
-            rt.stdout().write_all(&text[0..n])?;
-        }
+        rt.stdout().write_all(&text[..n])?;
     }
     reader.restart();
     Ok(())

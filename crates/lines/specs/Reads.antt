@@ -18,6 +18,11 @@ abbrev pub Named : Bytes → Option (Bor (List ℕ)) → Type 0
 Named bs None = (length bs == 1 + byte_at 0 bs) ≡ false
 Named bs (Some n) = ((length bs == 1 + byte_at 0 bs) ≡ true) × (n.now ≡ drop 1 bs)
 
+-- a number of so many bytes, and nothing more
+abbrev pub Alone : {A : Type 0} → ℕ → (A → ℕ) → Bytes → Option A → Type 0
+Alone w num bs None = (length bs == w) ≡ false
+Alone w num bs (Some n) = ((length bs == w) ≡ true) × (num n ≡ field w 0 bs)
+
 -- a machine, and nothing more
 abbrev pub Numbered : Bytes → Option MachineId → Type 0
 Numbered bs None = (length bs == 2) ≡ false

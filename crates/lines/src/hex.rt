@@ -1,5 +1,5 @@
 // Answers as lines of text.
-ghost use Rattle.std.specs.Prelude.{◌≡◌, ◌+◌, ◌*◌, ◌<◌, ◌≤◌, [], ◌∷◌, ◌++◌, length, take, MatchOption};
+ghost use Rattle.std.specs.Prelude.{◌≡◌, ◌+◌, ◌*◌, ◌<◌, ◌≤◌, [], ◌∷◌, ◌++◌, length, take, IfSome, MatchOption};
 ghost use Rattle.std.specs.Char.{digit_char};
 ghost use Rattle.lines.specs.Text.{hex_text, out_text};
 
@@ -25,7 +25,8 @@ fn digits(bytes: &[u8], text: &mut [u8])
 
 // The line of text that says an answer; nothing is written where there is no room for it.
 pub fn say(answer: &[u8], text: &mut [u8]) -> Option<usize>
-    ensures { MatchOption result ((length text.old < 5 + 2 * length answer.now) × (text.new ≡ text.old)) (λ n. take n text.new ≡ out_text answer.now) }
+    ensures text { MatchOption result ((length text.old < 5 + 2 * length answer.now) × (text.new ≡ text.old)) (λ n. take n text.new ≡ out_text answer.now) }
+    ensures within { IfSome result (λ n. n ≤ length text.new) }
 {
     if text.len() < 5 || (text.len() - 5) / 2 < answer.len() {
         return None;

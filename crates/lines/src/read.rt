@@ -1,14 +1,14 @@
 // Calls from bytes.
 ghost use Rattle.std.specs.Prelude.{◌≡◌, ◌+◌, ◌*◌, ◌/◌, ◌≤◌, length};
-ghost use Rattle.model.specs.Wire.{flags_in, read_add_lem, read_call, read_kind_lem, read_report_lem, read_set_lem, read_tick, spec_in_lem};
+ghost use Rattle.model.specs.Wire.{flags_in, read_add_lem, read_call, read_kind_lem, read_report_lem, read_set_lem, spec_in_lem};
 ghost use Rattle.calls.specs.Meaning.{like_of};
 ghost use Rattle.lines.specs.Kinds.{byte_of};
-ghost use Rattle.lines.specs.Reads.{Named, Numbered, ReadAs};
+ghost use Rattle.lines.specs.Reads.{Alone, Named, Numbered, ReadAs};
 
 use crate::kind::Kind;
 use calls::call::{Added, Call, Likeness, Reported, Wanted};
 use jobs::ids::{Life, MachineId, ReportNumber};
-use octets::field::number_at;
+use octets::field::{Number, number_at};
 
 // A name behind its length.
 fn named(rest: &[u8]) -> Option<&[u8]>
@@ -20,22 +20,21 @@ fn named(rest: &[u8]) -> Option<&[u8]>
     }
 }
 
+// A number, and nothing more.
+fn alone<T: Number>(rest: &[u8]) -> Option<T>
+    ensures { Alone T.WIDTH T.num rest.now result }
+{
+    if rest.len() != T::WIDTH {
+        return None;
+    }
+    Some(number_at(rest, 0))
+}
+
+// A machine, and nothing more.
 fn numbered(rest: &[u8]) -> Option<MachineId>
     ensures { Numbered rest.now result }
 {
-    if rest.len() != 2 {
-        return None;
-    }
-    Some(MachineId(number_at(rest, 0)))
-}
-
-fn read_time(rest: &[u8]) -> Option<Call<'_>>
-    ensures { ReadAs (read_tick rest.now) result }
-{
-    if rest.len() != 8 {
-        return None;
-    }
-    Some(Call::Time(number_at(rest, 0)))
+    alone(rest).map(MachineId)
 }
 
 fn read_add(rest: &[u8]) -> Option<Call<'_>>
@@ -95,14 +94,8 @@ fn likeness(bytes: &[u8], tags: usize) -> Likeness<'_>
 fn read_set(rest: &[u8]) -> Option<Call<'_>>
     ensures { ReadAs (read_set_lem rest.now) result }
 {
-    if rest.len() < 1 {
-        return None;
-    }
-    let name = rest[0] as usize;
-    if rest.len() < name + 14 {
-        return None;
-    }
-    let tags = rest[name + 13] as usize;
+    let name = *rest.first()? as usize;
+    let tags = *rest.get(name + 13)? as usize;
     if rest.len() != name + 4 * tags + 21 || rest[name + 4 * tags + 14] > 1 {
         return None;
     }
@@ -127,7 +120,7 @@ fn read_kind(kind: Kind, rest: &[u8]) -> Option<Call<'_>>
         Kind::Reopen => Some(Call::Reopen(numbered(rest)?)),
         Kind::Forget => Some(Call::Forget(numbered(rest)?)),
         Kind::Report => read_report(rest),
-        Kind::Time => read_time(rest),
+        Kind::Time => Some(Call::Time(alone(rest)?)),
         Kind::Show => Some(Call::Show(named(rest)?)),
     }
 }

@@ -32,6 +32,3 @@ wakes h home live m e p q = subst (λ (x : Held). Ended herd_code.wakes m x m) (
 -- the words that a herd stored are sound
 pub stored_sound : (m : Memory) (s : State) (h : List ℕ) → Tells m s → ((g : List ℕ) → length g ≡ home_words_lem → Holds g m → h ≡ g) → sound_words h ≡ true
 stored_sound m s h t f = ap sound_words (f t.home t.sized t.held) ∙ ap sound_words (sym t.back) ∙ t.stands.0.sound
-
-pub mended : (h home : List ℕ) (b sound : Bool) → sound ≡ sound_words h → b ≡ sound → home ≡ cond b h (zeros home_words_lem) → home ≡ cond (sound_words h) h (zeros home_words_lem)
-mended h home b sound e p q = q ∙ ap (λ (x : Bool). cond x h (zeros home_words_lem)) (p ∙ e)

@@ -1,7 +1,8 @@
-use Rattle.std.proofs.Common.{Bool, sym, refl, ap, ◌∙◌, subst}
-use Rattle.model.specs.Wire.{read_call}
+use Rattle.std.proofs.Common.{◌≡◌, Bool, false, take, sym, refl, ap, ◌∙◌, subst}
+use Rattle.model.specs.Wire.{Bytes, read_call}
 use Rattle.model.specs.Lines.{call_in}
 use Rattle.calls.specs.Meaning.{call_of}
+use Rattle.lines.specs.Held.{call_room}
 use Rattle.lines.specs.Overlong.{LongerAs}
 use Rattle.serving.specs.Herd.{held_by}
 use Rattle.serving.proofs.Barring.{says_barred}
@@ -19,17 +20,19 @@ returns-then-is_longer c = λ bytes h u.
     overlong (call_in bytes) (held_by c.args.mind.now) c.kind.result (c.kind.ensures bytes h) b.0 b.1
     (subst (λ (r : Bool). LongerAs bytes r) c.if-is_longer.true (c.is_longer.ensures bytes h u))
 
+-- all of the call is held
+held : (bytes xs : Bytes) (r : Bool) → xs ≡ take call_room (call_in bytes) → LongerAs bytes r → r ≡ false → read_call (call_in bytes) ≡ read_call xs
+held bytes xs r e l f = ap read_call (sym (e ∙ subst (LongerAs bytes) f l))
+
 pub returns-in_default-read : goal.returns-in_default-read
 returns-in_default-read c = λ bytes h u.
     let b = c.in_default.ensures in
-    let w = subst (λ (r : Bool). LongerAs bytes r) c.if-is_longer.false (c.is_longer.ensures bytes h u) in
     unread (call_in bytes) (held_by c.args.mind.now) c.kind.result (c.kind.ensures bytes h) b.0 b.1
-    (ap read_call (sym (c.call.ensures bytes h ∙ w)) ∙ c.in_default-read.ensures)
+    (held bytes _ _ (c.call.ensures bytes h) (c.is_longer.ensures bytes h u) c.if-is_longer.false ∙ c.in_default-read.ensures)
 
 pub returns : goal.returns
 returns c = λ bytes h u.
     let b = c.in_default.ensures in
-    let w = subst (λ (r : Bool). LongerAs bytes r) c.if-is_longer.false (c.is_longer.ensures bytes h u) in
     responded (call_in bytes) (held_by c.args.mind.now) c.kind.result (c.kind.ensures bytes h) b.0 b.1 (call_of c.in-Some-read.call)
-    (ap read_call (sym (c.call.ensures bytes h ∙ w)) ∙ c.in-Some-read.ensures)
+    (held bytes _ _ (c.call.ensures bytes h) (c.is_longer.ensures bytes h u) c.if-is_longer.false ∙ c.in-Some-read.ensures)
     (held_by c.act.new.self) c.act.result c.act.ensures
