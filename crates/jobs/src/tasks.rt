@@ -90,6 +90,13 @@ impl TaskRow<'_> {
         self.words[1] == Mark::Waiting as u64
     }
 
+    // Is it on its machine, and not ending.
+    pub fn is_placed(self) -> bool
+        ensures { result ≡ (at self.entry.words.now 1 == 1) }
+    {
+        self.words[1] == Mark::Placed as u64
+    }
+
     // Its phase, by the word in `live` that says whether it is ready.
     pub fn phase(self, ready: u64) -> Phase
         ensures phase { phase_of result ≡ phase_from_lem (at self.entry.words.now 1) ready }

@@ -11,11 +11,8 @@ ghost use Rattle.lines.specs.Listings.{line_of, order_of, runs_on_lem};
 use crate::listing::Listing;
 use crate::write::{put_number, put_spec, put_u8};
 use jobs::ids::MachineId;
-use jobs::kinds::{spec_from, version_from};
-use jobs::naming::is_named;
 use jobs::phase::Phase;
-use jobs::rows::task_kind;
-use jobs::tasks::phase_from;
+use jobs::rows::TaskRow;
 
 // What is to run on a machine.
 #[derive(Clone, Copy)]
@@ -26,11 +23,10 @@ pub struct RunsOn(pub MachineId);
 pub struct OfJob<'a>(pub &'a [u8]);
 
 // Is there a task in a row that is to run on a machine: told to it, or ready there, and not ending.
-fn runs_on(row: &[u64], machine: MachineId) -> bool
-    requires { length row.now ≡ 27 }
-    ensures { result ≡ (not (at row.now 0 == 0) && (at row.now 1 == 1 && machine.0 == at row.now 2 % 65536)) }
+fn runs_on(row: TaskRow, machine: MachineId) -> bool
+    ensures { result ≡ (not (at row.entry.words.now 0 == 0) && (at row.entry.words.now 1 == 1 && machine.0 == at row.entry.words.now 2 % 65536)) }
 {
-    row[0] != 0 && row[1] == 1 && u64::from(machine.0) == row[2] % 65536
+    !row.is_hole() && row.is_placed() && machine == row.machine()
 }
 
 impl Listing for RunsOn {
@@ -38,22 +34,21 @@ impl Listing for RunsOn {
 
     ghost each = { λ _. order_of };
 
-    fn lists(&self, row: &[u64]) -> bool {
+    fn lists(&self, row: TaskRow<'_>) -> bool {
         runs_on(row, self.0)
     }
 
-    fn put_task(&self, out: &mut [u8], at: usize, row: &[u64], _ready: u64) -> usize {
-        let end = put_number(out, at, row[0]);
-        put_spec(out, end, &spec_from(task_kind(row)))
+    fn put_task(&self, out: &mut [u8], at: usize, row: TaskRow<'_>, _ready: u64) -> usize {
+        let end = put_number(out, at, row.id().0);
+        put_spec(out, end, &row.kind().spec())
     }
 }
 
 // Is there a task of the job of that name in a row.
-pub fn is_of(row: &[u64], name: &[u8]) -> bool
-    requires { length row.now ≡ 27 }
-    ensures { result ≡ (not (at row.now 0 == 0) && same name.now (name_from_lem (drop 4 row.now))) }
+pub fn is_of(row: TaskRow, name: &[u8]) -> bool
+    ensures { result ≡ (not (at row.entry.words.now 0 == 0) && same name.now (name_from_lem (drop 4 row.entry.words.now))) }
 {
-    row[0] != 0 && is_named(task_kind(row), &name)
+    !row.is_hole() && row.kind().is_named(&name)
 }
 
 // The number that the bytes have for a phase.
@@ -83,14 +78,14 @@ impl<'a> Listing for OfJob<'a> {
 
     ghost each = { λ _. line_of };
 
-    fn lists(&self, row: &[u64]) -> bool {
+    fn lists(&self, row: TaskRow<'_>) -> bool {
         is_of(row, self.0)
     }
 
-    fn put_task(&self, out: &mut [u8], at: usize, row: &[u64], ready: u64) -> usize {
-        let phase = phase_from(row, ready);
-        let end = put_number(out, at, row[0]);
-        let end = put_number(out, end, version_from(task_kind(row)).0);
+    fn put_task(&self, out: &mut [u8], at: usize, row: TaskRow<'_>, ready: u64) -> usize {
+        let phase = row.phase(ready);
+        let end = put_number(out, at, row.id().0);
+        let end = put_number(out, end, row.kind().version().0);
         let end = put_u8(out, end, phase_number(phase));
         put_number(out, end, machine_number(phase))
     }

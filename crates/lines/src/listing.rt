@@ -10,7 +10,7 @@ ghost use Rattle.lines.specs.Puts.{Puts};
 
 use crate::write::put_number;
 use jobs::layout::READY_BASE;
-use jobs::rows::{task_row, task_rows};
+use jobs::rows::{TASKS, TaskRow};
 
 // How far is written, and how many tasks these are.
 #[derive(Clone, Copy)]
@@ -26,15 +26,13 @@ pub trait Listing {
     ghost each: { Self → Task → Bytes };
 
     // Is there one of them in a row.
-    fn lists(&self, row: &[u64]) -> bool
-        requires { length row.now ≡ 27 }
-        ensures { (ready : ℕ) → keep (which self.now) (task_slot row.now ready) ≡ (if result then task_from row.now ready ∷ [] else []) };
+    fn lists(&self, row: TaskRow<'_>) -> bool
+        ensures { (ready : ℕ) → keep (which self.now) (task_slot row.entry.words.now ready) ≡ (if result then task_from row.entry.words.now ready ∷ [] else []) };
 
     // The bytes of the task in a row.
-    fn put_task(&self, out: &mut [u8], at: usize, row: &[u64], ready: u64) -> usize
-        requires row { length row.now ≡ 27 }
-        requires room { at + 54 ≤ length out.old }
-        ensures bytes { Puts (each self.now (task_from row.now ready)) out.old out.new at result }
+    fn put_task(&self, out: &mut [u8], at: usize, row: TaskRow<'_>, ready: u64) -> usize
+        requires { at + 54 ≤ length out.old }
+        ensures bytes { Puts (each self.now (task_from row.entry.words.now ready)) out.old out.new at result }
         ensures room { result ≤ at + 54 };
 }
 
@@ -43,13 +41,12 @@ pub fn put_row<L: Listing>(
     listing: &L,
     out: &mut [u8],
     done: Listed,
-    row: &[u64],
+    row: TaskRow<'_>,
     ready: u64,
 ) -> Listed
-    requires row { length row.now ≡ 27 }
     requires room { done.end + 54 ≤ length out.old }
     requires few { done.count < 65535 }
-    ensures lists { Lists (L.Listing.which listing.now) (L.Listing.each listing.now) (task_slot row.now ready) out.old out.new done.end done.count result.end result.count }
+    ensures lists { Lists (L.Listing.which listing.now) (L.Listing.each listing.now) (task_slot row.entry.words.now ready) out.old out.new done.end done.count result.end result.count }
     ensures room { result.end ≤ done.end + 54 }
     ensures few { result.count ≤ done.count + 1 }
 {
@@ -77,12 +74,12 @@ fn put_rows<L: Listing>(
     ensures room { result.end ≤ at + 110592 }
 {
     let mut listed = Listed { end: at, count: 0 };
-    for i in 0..task_rows(home) {
+    for i in 0..TASKS.in_use(home) {
         listed = put_row(
             listing,
             out,
             listed,
-            task_row(home, i),
+            TASKS.row(home, i),
             live[READY_BASE + i],
         );
     }
