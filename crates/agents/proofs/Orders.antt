@@ -1,15 +1,17 @@
 -- Orders in bytes, one by one.
 -- Assumes nothing.
-use Rattle.std.proofs.Common.{◌≡◌, ℕ, zero, suc, ◌+◌, ◌-◌, ◌*◌, ◌<◌, ◌≤◌, Bool, true, false, ◌&&◌, eqb, List, [], ◌∷◌, ◌++◌, map, length, get_or, take, drop, set, sym, refl, ap, ◌∙◌, subst, append_assoc, append-nil, add-one, arith, length-drop, drop-drop}
+use Rattle.std.proofs.Common.{◌≡◌, ℕ, zero, suc, ◌+◌, ◌-◌, ◌*◌, ◌<◌, ◌≤◌, Bool, true, false, ◌&&◌, eqb, List, [], ◌∷◌, ◌++◌, map, length, get_or, take, drop, set, Err, sym, refl, ap, ◌∙◌, subst, append_assoc, append-nil, add-one, arith, length-drop, drop-drop}
 use Rattle.std.proofs.lemmas.List.{take_more_set, take_rest, length-map}
 use Rattle.std.proofs.lemmas.Bool.{eq-eqb, ne_eqb, le-leb, le-ltb}
 use Rattle.model.specs.Wire.{Bytes, garbled, meant, byte_at, field, tags_in_lem, spec_in_lem, Runs}
 use Rattle.model.specs.Lines.{call_in}
 use Rattle.model.specs.State as s
 use Rattle.model.specs.Calls as m
-use Rattle.model.specs.Answers.{tags_at, order_width, order_in, is_order_in, orders_in_lem, are_orders_in, read_runs, read_answer_lem}
+use Rattle.model.specs.Answers.{tags_at, order_width, order_in, is_order_in, orders_in_lem, are_orders_in, read_runs}
 use Rattle.agents.specs.Memory.{order_of}
-use Rattle.agents.specs.Answering.{OrderRead}
+use Rattle.agents.specs.Answering.{OrderRead, OrdersAs, HeardAs}
+use Rattle.agents.specs.declared.agent.Passed.{Passed}
+use Rattle.agents.specs.declared.agent.Passed.TheVariants.{NoAnswer, NoMemory, Refused, NotLast}
 use Rattle.agents.specs.declared.order.Order.{Order}
 
 -- one tag more
@@ -111,10 +113,12 @@ module _ (bs : Bytes) (l : 20 ≤ length bs) where
       let g : are_orders_in (field 2 18 bs) (drop 20 bs) ≡ false = sym (ap (λ (x : ℕ). are_orders_in x (drop 20 bs)) s) ∙ sym (ap (are_orders_in c) (take_rest bs 20)) ∙ f in
       rw (le-leb 20 (length bs) l, g)
 
--- the first byte and the rest
-pub answer_runs : (bs : Bytes) → 0 < length bs → get_or bs 0 0 ≡ 2 → read_runs (take (length bs - 1) (drop 1 bs)) ≡ read_answer_lem bs
-answer_runs [] h e = absurd (omega arith)
-answer_runs (k ∷ bs) h e = rw (take_rest (k ∷ bs) 1, e)
+-- and why it is none
+pub runs_unread : (bs : Bytes) → 20 ≤ length bs → (c : ℕ) (e : Passed) → c ≡ field 2 18 bs → OrdersAs c (take (length bs - 20) (drop 20 bs)) (Err e) → HeardAs (read_runs bs) (Err e)
+runs_unread bs l c NoAnswer s h = λ k e n os p. let g = runs_bad bs l c s h in let z : ◌≡◌ {A = ℕ} 0 1 = cc in omega arith
+runs_unread bs l c NoMemory s h = tt
+runs_unread bs l c (Refused k) s h = absurd h
+runs_unread bs l c NotLast s h = absurd h
 
 -- a frame
 pub frame_bad : (line : Bytes) → 8 ≤ length line → (field 4 0 line + 4 ≡ length line → ⊥) → [] ≡ call_in line

@@ -1,8 +1,12 @@
 // An agent's memory.
-ghost use Rattle.std.specs.Prelude.{◌≤◌, vec_len};
+ghost use Rattle.std.specs.Prelude.{◌≡◌, ◌≤◌, vec_len};
+ghost use Rattle.agents.specs.declared.agent.Passed.TheVariants as passed;
+ghost use Rattle.agents.specs.declared.agent.Unsent.TheVariants as unsent;
 
 use crate::head::Head;
 use crate::order::{Order, Seen};
+use jobs::ids::TaskId;
+use std::alloc::{AllocError, AllocFailed};
 
 // What was ordered last, and what runs.
 #[derive(Drop)]
@@ -14,14 +18,22 @@ pub struct Agent {
 }
 
 // Why a report is not sent.
-#[derive(Clone, Copy)]
+#[derive(Clone, Copy, Debug, PartialEq, Eq)]
 pub enum Unsent {
     Last,
     NoMemory,
 }
 
+impl From<AllocError> for Unsent {
+    ghost from_gives = { λ _ e. e ≡ unsent.NoMemory };
+
+    fn from(_e: AllocError) -> Unsent {
+        Unsent::NoMemory
+    }
+}
+
 // Why what came is passed over.
-#[derive(Clone, Copy)]
+#[derive(Clone, Copy, Debug, PartialEq, Eq)]
 pub enum Passed {
     NoAnswer,
     Refused(u8),
@@ -29,3 +41,23 @@ pub enum Passed {
     NotLast,
     NoMemory,
 }
+
+impl From<AllocError> for Passed {
+    ghost from_gives = { λ _ e. e ≡ passed.NoMemory };
+
+    fn from(_e: AllocError) -> Passed {
+        Passed::NoMemory
+    }
+}
+
+impl<T: Drop> From<AllocFailed<T>> for Passed {
+    ghost from_gives = { λ _ e. e ≡ passed.NoMemory };
+
+    fn from(_e: AllocFailed<T>) -> Passed {
+        Passed::NoMemory
+    }
+}
+
+// A task that was said to be ready or dead, and doesn't run here.
+#[derive(Clone, Copy, Debug, PartialEq, Eq)]
+pub struct NotRunning(pub TaskId);

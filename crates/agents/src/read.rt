@@ -6,21 +6,14 @@ ghost use Rattle.model.specs.Lines.{call_in};
 ghost use Rattle.jobs.specs.Values.{spec_of};
 ghost use Rattle.agents.specs.Answering.{HeardAs, OrderRead, OrdersAs};
 
+use crate::agent::Passed;
 use crate::head::Head;
-use crate::heard::{Heard, Run};
+use crate::heard::Run;
 use crate::order::Order;
 use jobs::ids::{Life, MachineId, ReportNumber, TaskId};
 use jobs::spec::Spec;
 use octets::field::number_at;
 use std::alloc::Global;
-
-// Orders, if bytes are such.
-#[derive(Drop)]
-enum Orders {
-    Whole(Vec<Order>),
-    Garbled,
-    NoMemory,
-}
 
 fn tags_in(bytes: &[u8], count: usize) -> [u32; 8]
     requires few { count ≤ 8 }
@@ -70,58 +63,48 @@ fn order_in(bytes: &[u8]) -> Option<Order>
 }
 
 // So many orders, and nothing behind them.
-fn orders_in(heap: Global, bytes: &[u8], count: u16) -> Orders
+fn orders_in(heap: Global, bytes: &[u8], count: u16) -> Result<Vec<Order>, Passed>
     ensures { OrdersAs count bytes.now result }
 {
     let mut orders = Vec::new(heap);
     let mut at: usize = 0;
     for i in 0..count {
-        let Some(order) = order_in(&bytes[at..]) else {
-            return Orders::Garbled;
-        };
+        let order = order_in(&bytes[at..]).ok_or(Passed::NoAnswer)?;
         at += 22 + 4 * order.spec.count as usize;
-        if orders.push(order).is_err() {
-            return Orders::NoMemory;
-        }
+        orders.push(order)?;
     }
     if at != bytes.len() {
-        return Orders::Garbled;
+        return Err(Passed::NoAnswer);
     }
-    Orders::Whole(orders)
+    Ok(orders)
 }
 
 // The part of an answer to a report behind its kind.
-fn read_run(heap: Global, rest: &[u8]) -> Heard
+fn read_run(heap: Global, rest: &[u8]) -> Result<Run, Passed>
     ensures { HeardAs (read_runs rest.now) result }
 {
     if rest.len() < 20 {
-        return Heard::Other;
+        return Err(Passed::NoAnswer);
     }
-    match orders_in(heap, &rest[20..], number_at(rest, 18)) {
-        Orders::Whole(orders) => Heard::Run(Run {
-            head: Head {
-                machine: MachineId(number_at(rest, 0)),
-                life: Life(number_at(rest, 2)),
-                number: ReportNumber(number_at(rest, 10)),
-            },
-            orders,
-        }),
-        Orders::Garbled => Heard::Other,
-        Orders::NoMemory => Heard::NoMemory,
-    }
+    let orders = orders_in(heap, &rest[20..], number_at(rest, 18))?;
+    Ok(Run {
+        head: Head {
+            machine: MachineId(number_at(rest, 0)),
+            life: Life(number_at(rest, 2)),
+            number: ReportNumber(number_at(rest, 10)),
+        },
+        orders,
+    })
 }
 
 // What these bytes say.
-pub fn read_answer(heap: Global, bytes: &[u8]) -> Heard
+pub fn read_answer(heap: Global, bytes: &[u8]) -> Result<Run, Passed>
     ensures { HeardAs (read_answer_lem bytes.now) result }
 {
-    if bytes.len() == 0 {
-        return Heard::Other;
-    }
-    match bytes[0] {
-        0 if bytes.len() == 2 => Heard::Refused(bytes[1]),
-        2 => read_run(heap, &bytes[1..]),
-        _ => Heard::Other,
+    match bytes.first() {
+        Some(0) if bytes.len() == 2 => Err(Passed::Refused(bytes[1])),
+        Some(2) => read_run(heap, &bytes[1..]),
+        _ => Err(Passed::NoAnswer),
     }
 }
 
