@@ -5,8 +5,9 @@ ghost use Rattle.agents.specs.declared.agent.Unsent.TheVariants as unsent;
 
 use crate::head::Head;
 use crate::order::{Order, Seen};
-use jobs::ids::TaskId;
+use jobs::ids::{LAST, TaskId};
 use std::alloc::{AllocError, AllocFailed};
+use std::fmt;
 
 // What was ordered last, and what runs.
 #[derive(Drop)]
@@ -29,6 +30,18 @@ impl From<AllocError> for Unsent {
 
     fn from(_e: AllocError) -> Unsent {
         Unsent::NoMemory
+    }
+}
+
+impl fmt::Display for Unsent {
+    fn fmt<W: fmt::Write>(&self, f: &mut fmt::Formatter<W>) -> fmt::Result {
+        match self {
+            Unsent::Last => write!(
+                f,
+                "number {LAST} was the last of this life; start the agent anew"
+            ),
+            Unsent::NoMemory => write!(f, "no memory for it; ask again"),
+        }
     }
 }
 
@@ -58,6 +71,23 @@ impl<T: Drop> From<AllocFailed<T>> for Passed {
     }
 }
 
+impl fmt::Display for Passed {
+    fn fmt<W: fmt::Write>(&self, f: &mut fmt::Formatter<W>) -> fmt::Result {
+        match self {
+            Passed::NoAnswer => write!(f, "it is no answer to a report"),
+            Passed::Refused(number) => write!(f, "the herd turned a call away by {number}"),
+            Passed::NotLast => write!(f, "it doesn't answer the last report of this life"),
+            Passed::NoMemory => write!(f, "no memory to obey it; report again"),
+        }
+    }
+}
+
 // A task that was said to be ready or dead, and doesn't run here.
 #[derive(Clone, Copy, Debug, PartialEq, Eq)]
 pub struct NotRunning(pub TaskId);
+
+impl fmt::Display for NotRunning {
+    fn fmt<W: fmt::Write>(&self, f: &mut fmt::Formatter<W>) -> fmt::Result {
+        write!(f, "{} doesn't run here", self.0)
+    }
+}
