@@ -1,5 +1,6 @@
 // What is ordered and what runs, by task.
-ghost use Rattle.std.specs.Prelude.{◌≡◌, [], ◌∷◌, ◌++◌, IfOk, OnOk};
+ghost use Rattle.std.specs.List as list;
+ghost use Rattle.std.specs.Prelude.{◌==◌, ◌≡◌, [], ◌∷◌, ◌++◌, IfOk, OnOk};
 ghost use Rattle.model.specs.Lists.{find, some};
 ghost use Rattle.model.specs.World.{is_order, is_ready_in, is_seen};
 ghost use Rattle.agents.specs.Memory.{orders_of, seen_of, seens_of};
@@ -17,7 +18,8 @@ fn is_ordered(orders: &[Order], task: TaskId) -> bool
 
 // The order for a task: the first, where hostile bytes gave several.
 pub fn order_for(orders: &[Order], task: TaskId) -> Option<Order>
-    ensures { Found (find (is_order task.0) (orders_of orders.now)) result }
+    ensures first { result ≡ list.find (λ o. task.0 == o.task.0) orders.now }
+    ensures found { Found (find (is_order task.0) (orders_of orders.now)) result }
 {
     orders.iter().find(|order| task == order.task).copied()
 }
