@@ -1,9 +1,9 @@
 // What is ordered and what runs, by task.
 ghost use Rattle.std.specs.List as list;
-ghost use Rattle.std.specs.Prelude.{◌==◌, ◌≡◌, [], ◌∷◌, ◌++◌, IfOk, OnOk};
+ghost use Rattle.std.specs.Prelude.{◌≡◌, ◌==◌, IfOk, OnOk};
 ghost use Rattle.model.specs.Lists.{find, some};
 ghost use Rattle.model.specs.World.{is_order, is_ready_in, is_seen};
-ghost use Rattle.agents.specs.Memory.{orders_of, seen_of, seens_of};
+ghost use Rattle.agents.specs.Memory.{orders_of, seens_of};
 ghost use Rattle.agents.specs.Moves.{Found, PlacedAt, kept, started, started_one};
 
 use crate::order::{Order, Seen};

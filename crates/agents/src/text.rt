@@ -1,5 +1,5 @@
 // Lines of text: what an agent is told, and bytes in hexadecimal.
-ghost use Rattle.std.specs.Prelude.{◌≡◌, ℕ, ◌/◌, ◌%◌, ◌<◌, List, [], ◌∷◌, ◌++◌, MatchOption, OnOk};
+ghost use Rattle.std.specs.Prelude.{◌≡◌, ℕ, ◌/◌, ◌%◌, List, [], ◌∷◌, ◌++◌, MatchOption, OnOk};
 ghost use Rattle.std.specs.Char.{digit_char};
 ghost use Rattle.model.specs.Wire.{garbled};
 ghost use Rattle.lines.specs.Resume.{number_in};
@@ -80,8 +80,8 @@ pub fn bytes_of(heap: Global, text: &[u8]) -> Result<Vec<u8>, Unhexed>
     ensures { UnhexedAs (hex_on [] first text.now) result }
 {
     let mut bytes = Vec::new(heap);
-    for i in 0..text.len() / 2 {
-        let byte = byte_of(text[2 * i], text[2 * i + 1]).ok_or(Unhexed::Garbled)?;
+    for pair in text.chunks_exact(2) {
+        let byte = byte_of(pair[0], pair[1]).ok_or(Unhexed::Garbled)?;
         bytes.push(byte)?;
     }
     if text.len() % 2 != 0 {
