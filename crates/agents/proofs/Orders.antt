@@ -1,8 +1,10 @@
 -- Orders in bytes, one by one.
 -- Assumes nothing.
-use Rattle.std.proofs.Common.{◌≡◌, ℕ, zero, suc, ◌+◌, ◌-◌, ◌*◌, ◌<◌, ◌≤◌, Bool, true, false, ◌&&◌, eqb, List, [], ◌∷◌, ◌++◌, map, length, get_or, take, drop, set, Err, sym, refl, ap, ◌∙◌, subst, append_assoc, append-nil, add-one, arith, length-drop, drop-drop}
-use Rattle.std.proofs.lemmas.List.{take_more_set, take_rest, length-map}
+use Rattle.std.proofs.Common.{◌≡◌, ℕ, zero, suc, ◌+◌, ◌-◌, ◌*◌, ◌/◌, ◌<◌, ◌≤◌, Bool, true, false, ◌&&◌, eqb, List, [], ◌∷◌, ◌++◌, map, length, get_or, take, drop, Err, sym, refl, ap, ◌∙◌, subst, append_assoc, append-nil, arith, length-drop, drop-drop}
+use Rattle.std.proofs.lemmas.List.{take_rest, length-map}
 use Rattle.std.proofs.lemmas.Bool.{eq-eqb, ne_eqb, le-leb, le-ltb}
+use Rattle.octets.proofs.Numbers.{length_take_under}
+use Rattle.octets.proofs.Filling.{tags_within}
 use Rattle.model.specs.Wire.{Bytes, garbled, meant, byte_at, field, tags_in_lem, spec_in_lem, Runs}
 use Rattle.model.specs.Lines.{call_in}
 use Rattle.model.specs.State as s
@@ -14,25 +16,18 @@ use Rattle.agents.specs.declared.agent.Passed.{Passed}
 use Rattle.agents.specs.declared.agent.Passed.TheVariants.{NoAnswer, NoMemory, Refused, NotLast}
 use Rattle.agents.specs.declared.order.Order.{Order}
 
--- one tag more
-pub tags_push : (i : ℕ) (bs : Bytes) → tags_in_lem (suc i) bs ≡ tags_in_lem i bs ++ (field 4 (4 * i) bs ∷ [])
-unfolding tags_in_lem
-tags_push zero bs = refl
-tags_push (suc i) bs =
-    let h = tags_push i (drop 4 bs) in let e : 4 * suc i ≡ 4 + 4 * i = omega arith in
-    rw (e, ← drop-drop (4 * i) 4 bs) (ap (λ (ts : List ℕ). field 4 0 bs ∷ ts) h)
-
-pub tags_more : (i v : ℕ) (bs tags : Bytes) → i < length tags → v ≡ field 4 (4 * i) bs → take i tags ≡ tags_in_lem i bs → take (i + 1) (set tags i v) ≡ tags_in_lem (i + 1) bs
-tags_more i v bs tags l e h = rw (take_more_set tags i v l, add-one i, tags_push i bs, h, e)
-
-pub tags_none : (bs tags : Bytes) → take 0 tags ≡ tags_in_lem 0 bs
-unfolding tags_in_lem
-tags_none bs tags = refl
+-- the tags that were filled in
+pub tags_filled : (t : ℕ) (bs out : Bytes) → 14 + 4 * t ≤ length bs → take (length (take (13 + 4 * t - 13) (drop 13 bs)) / 4) out ≡ tags_in_lem (length (take (13 + 4 * t - 13) (drop 13 bs)) / 4) (take (13 + 4 * t - 13) (drop 13 bs)) →
+    take t out ≡ tags_in_lem t (drop 13 bs)
+tags_filled t bs out l e =
+    let k : 13 + 4 * t - 13 ≡ 4 * t = omega arith in let d = length-drop 13 bs in let w : 4 * t ≤ length (drop 13 bs) = omega (arith, l, d) in
+    let m : length (take (13 + 4 * t - 13) (drop 13 bs)) / 4 ≡ t = (let a = ap (λ (n : ℕ). length (take n (drop 13 bs))) k in let b = length_take_under (4 * t) (drop 13 bs) w in omega (arith, a, b)) in
+    ap (λ (n : ℕ). take n out) (sym m) ∙ e ∙ ap (λ (n : ℕ). tags_in_lem n (take (13 + 4 * t - 13) (drop 13 bs))) m ∙ ap (λ (n : ℕ). tags_in_lem t (take n (drop 13 bs))) k ∙ tags_within t (drop 13 bs) w
 
 -- a likeness, by its parts
-pub spec_read : (t : ℕ) (bs ts : Bytes) (i c m : ℕ) (a : Bool) → i ≡ field 4 0 bs → c ≡ field 4 4 bs → m ≡ field 4 8 bs → a ≡ eqb (get_or bs (13 + 4 * t) 0) 1 → ts ≡ tags_in_lem t (take (length bs - 13) (drop 13 bs)) →
+pub spec_read : (t : ℕ) (bs ts : Bytes) (i c m : ℕ) (a : Bool) → i ≡ field 4 0 bs → c ≡ field 4 4 bs → m ≡ field 4 8 bs → a ≡ eqb (get_or bs (13 + 4 * t) 0) 1 → ts ≡ tags_in_lem t (drop 13 bs) →
     ◌≡◌ {A = s.Spec} (record { image = i; cpu = c; mem = m; tags = ts; apart = a }) (spec_in_lem t bs)
-spec_read t bs ts i c m a p q r s g = let h : ts ≡ tags_in_lem t (drop 13 bs) = g ∙ ap (tags_in_lem t) (take_rest bs 13) in λ j. record { image = p j; cpu = q j; mem = r j; tags = h j; apart = s j }
+spec_read t bs ts i c m a p q r s h = λ j. record { image = p j; cpu = q j; mem = r j; tags = h j; apart = s j }
 
 -- an order that is there whole
 pub order_fits_lem : (bs : Bytes) → order_width bs ≤ length bs → tags_at bs ≤ 8 → byte_at (21 + 4 * tags_at bs) bs ≤ 1 → is_order_in bs ≡ true

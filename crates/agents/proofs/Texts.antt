@@ -2,7 +2,7 @@
 -- Assumes nothing.
 use Rattle.std.proofs.Common.{◌≡◌, ℕ, ◌+◌, ◌*◌, ◌/◌, ◌%◌, ◌<◌, ◌≤◌, Bool, true, false, cond, ltb, [], ◌∷◌, ◌++◌, length, get_or, take, drop, sym, refl, ap, ◌∙◌, append_assoc, append-nil, arith}
 use Rattle.std.specs.Char.{digit_char, digit_value}
-use Rattle.std.proofs.lemmas.List.{take_more, take_all, drop_more, drop_all}
+use Rattle.std.proofs.lemmas.List.{take_more, take_all, drop_all}
 use Rattle.model.specs.Wire.{Bytes, Read, garbled, meant}
 use Rattle.lines.specs.Text.{Text, first, hex_on, hex_text, decimal_on}
 use Rattle.lines.proofs.Reading.{hex_first, hex_second}

@@ -1,6 +1,6 @@
 // Answers from bytes.
-ghost use Rattle.std.specs.Prelude.{◌≡◌, ◌+◌, ◌*◌, ◌≤◌, false, length, take, MatchOption};
-ghost use Rattle.model.specs.Wire.{spec_in_lem, tags_in_lem};
+ghost use Rattle.std.specs.Prelude.{◌≡◌, ◌+◌, ◌*◌, ◌≤◌, false, length, MatchOption};
+ghost use Rattle.model.specs.Wire.{spec_in_lem};
 ghost use Rattle.model.specs.Answers.{is_order_in, read_answer_lem, read_runs};
 ghost use Rattle.model.specs.Lines.{call_in};
 ghost use Rattle.jobs.specs.Values.{spec_of};
@@ -12,20 +12,8 @@ use crate::heard::Run;
 use crate::order::Order;
 use jobs::ids::{Life, MachineId, ReportNumber, TaskId};
 use jobs::spec::Spec;
-use octets::field::number_at;
+use octets::field::{fill, number_at};
 use std::alloc::Global;
-
-fn tags_in(bytes: &[u8], count: usize) -> [u32; 8]
-    requires few { count ≤ 8 }
-    requires whole { 4 * count ≤ length bytes.now }
-    ensures { take count result ≡ tags_in_lem count bytes.now }
-{
-    let mut tags = [0u32; 8];
-    for i in 0..count {
-        tags[i] = number_at(bytes, 4 * i);
-    }
-    tags
-}
 
 // A likeness with so many tags.
 fn spec_in(bytes: &[u8], count: u8) -> Spec
@@ -34,14 +22,16 @@ fn spec_in(bytes: &[u8], count: u8) -> Spec
     ensures value { spec_of result ≡ spec_in_lem count bytes.now }
     ensures count { result.count ≡ count }
 {
-    let tags = count as usize;
+    let end = 13 + 4 * count as usize;
+    let mut tags = [0u32; 8];
+    fill(&mut tags, &bytes[13..end]);
     Spec {
         image: number_at(bytes, 0),
         cpu: number_at(bytes, 4),
         mem: number_at(bytes, 8),
-        apart: bytes[13 + 4 * tags] == 1,
+        apart: bytes[end] == 1,
         count,
-        tags: tags_in(&bytes[13..], tags),
+        tags,
     }
 }
 
