@@ -42,9 +42,6 @@ pub record Reading (n : ℕ) (bs : Bytes) (i at : ℕ) (os : List m.Order) : Typ
   pub fits : are_orders_in (n - i) (drop at bs) ≡ are_orders_in n bs
   pub value : os ++ orders_in_lem (n - i) (drop at bs) ≡ orders_in_lem n bs
 
-pub reading_none : (n : ℕ) (bs : Bytes) → Reading n bs 0 0 []
-reading_none n bs = let k : n - 0 ≡ n = omega arith in record { within = omega arith; fits = ap (λ (x : ℕ). are_orders_in x bs) k; value = ap (λ (x : ℕ). orders_in_lem x bs) k }
-
 module _ (n : ℕ) (bs : Bytes) (i at : ℕ) (os : List m.Order) (h : Reading n bs i at os) (l : i < n) where
   fits_step : are_orders_in (n - i) (drop at bs) ≡ (is_order_in (drop at bs) && are_orders_in (n - (i + 1)) (drop (at + order_width (drop at bs)) bs))
   unfolding are_orders_in
@@ -116,9 +113,6 @@ runs_unread bs l c (Refused k) s h = absurd h
 runs_unread bs l c NotLast s h = absurd h
 
 -- a frame
-pub frame_bad : (line : Bytes) → 8 ≤ length line → (field 4 0 line + 4 ≡ length line → ⊥) → [] ≡ call_in line
-frame_bad line l f = rw (le-ltb (length line) 8 l, ne_eqb (field 4 0 line + 4) (length line) f)
-
 pub frame_good : (line : Bytes) → 8 ≤ length line → field 4 0 line + 4 ≡ length line → take (length line - 8) (drop 8 line) ≡ call_in line
 frame_good line l e = rw (le-ltb (length line) 8 l, eq-eqb (field 4 0 line + 4) (length line) e, take_rest line 8)
 
