@@ -1,4 +1,5 @@
 pub mod Held
+pub mod Input
 pub mod Refusal
 pub mod Code
 pub mod Shown
