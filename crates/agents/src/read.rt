@@ -57,13 +57,13 @@ fn orders_in(heap: Global, bytes: &[u8], count: u16) -> Result<Vec<Order>, Passe
     ensures { OrdersAs count bytes.now result }
 {
     let mut orders = Vec::new(heap);
-    let mut at: usize = 0;
-    for i in 0..count {
-        let order = order_in(&bytes[at..]).ok_or(Passed::NoAnswer)?;
-        at += 22 + 4 * order.spec.count as usize;
+    let mut rest = bytes;
+    for _ in 0..count {
+        let order = order_in(rest).ok_or(Passed::NoAnswer)?;
+        rest = &rest[22 + 4 * order.spec.count as usize..];
         orders.push(order)?;
     }
-    if at != bytes.len() {
+    if !rest.is_empty() {
         return Err(Passed::NoAnswer);
     }
     Ok(orders)
