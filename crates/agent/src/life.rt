@@ -1,6 +1,6 @@
 // The file `life`, replaced as a whole: the next life is on the disk before anything bears it.
 use agents::life::{Unfit, first_life, life_bytes, next_life};
-use jobs::ids::Life;
+use jobs::ids::{LAST, Life};
 use std::alloc::AllocError;
 use std::fs::File;
 use std::io::{ErrorKind, Read, Write};
@@ -22,6 +22,15 @@ pub enum Trouble {
 impl From<AllocError> for Trouble {
     fn from(_e: AllocError) -> Trouble {
         Trouble::Memory
+    }
+}
+
+impl From<Unfit> for Trouble {
+    fn from(e: Unfit) -> Trouble {
+        match e {
+            Unfit::Damaged => Trouble::Damaged,
+            Unfit::Last => Trouble::Last,
+        }
     }
 }
 
@@ -48,7 +57,7 @@ impl fmt::Display for Trouble {
             ),
             Trouble::Last => write!(
                 f,
-                "`life` says that the last life, 4611686018427387904, was used; give this machine another number and a directory of its own"
+                "`life` says that the last life, {LAST}, was used; give this machine another number and a directory of its own"
             ),
             Trouble::Lines(e) => write!(f, "lines cannot be read or printed any more: {e}"),
         }
@@ -66,30 +75,18 @@ fn content(file: &mut File) -> io::Result<Option<[u8; 16]>> {
 }
 
 fn next_after(file: &mut File) -> Result<Life, Trouble> {
-    let found = match content(file) {
-        Ok(found) => found,
-        Err(e) => return Err(Trouble::Open(e)),
-    };
-    let Some(bytes) = found else {
-        return Err(Trouble::Damaged);
-    };
-    match next_life(&bytes) {
-        Ok(life) => Ok(life),
-        Err(Unfit::Damaged) => Err(Trouble::Damaged),
-        Err(Unfit::Last) => Err(Trouble::Last),
-    }
+    let bytes = content(file)
+        .map_err(Trouble::Open)?
+        .ok_or(Trouble::Damaged)?;
+    Ok(next_life(&bytes)?)
 }
 
 // The life to come up with.
 fn next(rt: &HostRuntime, path: &str) -> Result<Life, Trouble> {
     match File::open(rt, path) {
         Ok(mut file) => next_after(&mut file),
-        Err(e) => {
-            if e.kind() != ErrorKind::NotFound {
-                return Err(Trouble::Open(e));
-            }
-            Ok(first_life())
-        }
+        Err(e) if e.kind() == ErrorKind::NotFound => Ok(first_life()),
+        Err(e) => Err(Trouble::Open(e)),
     }
 }
 
@@ -108,8 +105,6 @@ fn keep(rt: &HostRuntime, dir: &str, path: &str, life: Life) -> io::Result<()> {
 pub fn rise(rt: &HostRuntime, dir: &str) -> Result<Life, Trouble> {
     let path = format!(in rt.alloc(); "{dir}/life")?;
     let life = next(rt, path.as_str())?;
-    match keep(rt, dir, path.as_str(), life) {
-        Ok(()) => Ok(life),
-        Err(e) => Err(Trouble::Keep(e)),
-    }
+    keep(rt, dir, path.as_str(), life).map_err(Trouble::Keep)?;
+    Ok(life)
 }

@@ -1,63 +1,81 @@
 // A line of text as it comes, of any length: no more of it is held than could be meant.
-use std::alloc::Global;
+use std::alloc::{AllocFailed, Global};
+use std::fmt;
 
 // The longest line that says anything: an answer with 65,535 orders of eight tags each.
 const ROOM: usize = 7_077_845;
 
 // Why a line is not held.
-#[derive(Clone, Copy)]
+#[derive(Clone, Copy, Debug, PartialEq, Eq)]
 pub enum Fault {
     TooLong,
     NoMemory,
 }
 
+impl<T: Drop> From<AllocFailed<T>> for Fault {
+    fn from(_e: AllocFailed<T>) -> Fault {
+        Fault::NoMemory
+    }
+}
+
+impl fmt::Display for Fault {
+    fn fmt<W: fmt::Write>(&self, f: &mut fmt::Formatter<W>) -> fmt::Result {
+        match self {
+            Fault::TooLong => write!(f, "it is longer than any that says something"),
+            Fault::NoMemory => write!(f, "no memory to hold it"),
+        }
+    }
+}
+
+// What came of it so far, as long as it is held.
 #[derive(Drop)]
 pub struct Line {
-    text: Vec<u8>,
-    fault: Option<Fault>,
-    begun: bool,
+    held: Result<Vec<u8>, Fault>,
+}
+
+fn hold(text: &mut Vec<u8>, c: u8) -> Result<(), Fault> {
+    if text.len() >= ROOM {
+        return Err(Fault::TooLong);
+    }
+    text.push(c)?;
+    Ok(())
 }
 
 impl Line {
     pub fn new(heap: Global) -> Self {
         Line {
-            text: Vec::new(heap),
-            fault: None,
-            begun: false,
+            held: Ok(Vec::new(heap)),
         }
     }
 
-    // One character more.
+    // One character more. What room an overlong line took is given back.
     pub fn push(&mut self, c: u8) {
-        self.begun = true;
-        if self.fault.is_some() {
-            return;
-        }
-        if self.text.len() >= ROOM {
-            self.fault = Some(Fault::TooLong);
-        } else if self.text.push(c).is_err() {
-            self.fault = Some(Fault::NoMemory);
+        if let Ok(text) = &mut self.held {
+            if let Err(fault) = hold(text, c) {
+                self.held = Err(fault);
+            }
         }
     }
 
-    // A new line begins; what room an overlong one took is given back.
+    // A new line begins.
     pub fn restart(&mut self, heap: Global) {
-        if self.fault.is_some() {
-            self.text = Vec::new(heap);
+        match &mut self.held {
+            Ok(text) => text.clear(),
+            Err(_) => self.held = Ok(Vec::new(heap)),
         }
-        self.text.clear();
-        self.fault = None;
-        self.begun = false;
     }
 
     pub fn is_begun(&self) -> bool {
-        self.begun
+        match &self.held {
+            Ok(text) => !text.is_empty(),
+            Err(_) => true,
+        }
     }
 
     pub fn text(&self) -> Result<&[u8], Fault> {
-        match self.fault {
-            Some(fault) => Err(fault),
-            None => Ok(self.text.as_slice()),
+        match &self.held {
+            Ok(text) => Ok(text.as_slice()),
+            Err(fault) => Err(*fault),
         }
     }
 }

@@ -4,6 +4,7 @@
 mod life;
 mod line;
 mod serve;
+mod skipped;
 #[cfg(test)]
 mod tests;
 
@@ -21,17 +22,9 @@ struct Place {
 
 // The machine, and the directory of its life: the second argument, else the one that it is started in.
 fn arguments(rt: &HostRuntime) -> Result<Place, Trouble> {
-    let mut args = match env::args(rt) {
-        Ok(args) => args.skip(1),
-        Err(e) => return Err(Trouble::Arguments(e)),
-    };
-    let Some(number) = args.next() else {
-        return Err(Trouble::Usage);
-    };
-    let machine = match number.as_str().parse::<u16>() {
-        Ok(n) => MachineId(n),
-        Err(_) => return Err(Trouble::Usage),
-    };
+    let mut args = env::args(rt).map_err(Trouble::Arguments)?.skip(1);
+    let number = args.next().ok_or(Trouble::Usage)?;
+    let machine = number.as_str().parse().map_err(|_| Trouble::Usage)?;
     let dir = match args.next() {
         Some(dir) => dir,
         None => String::from_str(rt.alloc(), ".")?,
@@ -39,25 +32,21 @@ fn arguments(rt: &HostRuntime) -> Result<Place, Trouble> {
     if args.next().is_some() {
         return Err(Trouble::Usage);
     }
-    Ok(Place { machine, dir })
+    Ok(Place {
+        machine: MachineId(machine),
+        dir,
+    })
 }
 
 fn run(rt: &HostRuntime) -> Result<(), Trouble> {
     let Place { machine, dir } = arguments(rt)?;
     let life = rise(rt, dir.as_str())?;
     let mut agent = Agent::new(rt.alloc(), machine, life);
-    match serve(rt, &mut agent, life) {
-        Ok(()) => Ok(()),
-        Err(e) => Err(Trouble::Lines(e)),
-    }
+    serve(rt, &mut agent, life).map_err(Trouble::Lines)
 }
 
 fn main(rt: HostRuntime) -> Result<(), Trouble> {
-    match run(&rt) {
-        Ok(()) => Ok(()),
-        Err(e) => {
-            let _ = eprintln!(rt; "agent: {e}");
-            Err(e)
-        }
-    }
+    run(&rt).inspect_err(|e| {
+        let _ = eprintln!(rt; "agent: {e}");
+    })
 }

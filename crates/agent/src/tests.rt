@@ -40,7 +40,7 @@ fn obeys_its_last_report(rt: HostRuntime) -> Result<(), Fail> {
     let deeds = agent.hear(rt.alloc(), &RUN).ok().ok_or("passed over")?;
     assert!(rt; deeds.len() == 1);
     assert_eq!(rt; started(deeds[0]), 9);
-    assert!(rt; agent.mark(TaskId(9), true));
+    assert!(rt; agent.mark(TaskId(9), true).is_ok());
     assert!(rt; agent.report(rt.alloc()).is_ok());
     assert!(rt;
         agent.hear(rt.alloc(), &RUN).is_err(),

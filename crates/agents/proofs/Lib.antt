@@ -1,3 +1,5 @@
+pub mod Chains
+pub mod Calling
 pub mod Lists
 pub mod Orders
 pub mod Moving

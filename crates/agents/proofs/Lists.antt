@@ -1,55 +1,12 @@
--- Lists that loops look through, or make.
+-- Lists that loops make.
 -- Assumes nothing.
-use Rattle.std.proofs.Common.{◌≡◌, ℕ, ◌+◌, ◌<◌, ◌≤◌, Bool, true, false, cond, List, [], ◌∷◌, ◌++◌, map, length, get_or, take, drop, sym, refl, ap, ◌∙◌, append_assoc, append-nil}
+use Rattle.std.proofs.Common.{◌≡◌, ℕ, ◌+◌, ◌<◌, ◌≤◌, Bool, true, cond, List, [], ◌∷◌, ◌++◌, map, length, get_or, take, sym, refl, ap, ◌∙◌, append_assoc, append-nil}
 use Rattle.std.specs.List.{flat_map}
-use Rattle.std.proofs.lemmas.List.{map_push, drop_more, drop_all, take_more, take_all}
-use Rattle.model.specs.Lists.{some, keep, find}
+use Rattle.std.proofs.lemmas.List.{map_push, take_more, take_all}
 
 -- what a push that went well leaves
 pub pushed : {X Y : Type 0} (f : X → Y) (b : Bool) (ys xs : List X) (x : X) → ys ≡ cond b (xs ++ x ∷ []) xs → b ≡ true → map f ys ≡ map f xs ++ (f x ∷ [])
 pushed f b ys xs x e t = ap (map f) (e ∙ ap (λ (v : Bool). cond v (xs ++ x ∷ []) xs) t) ∙ map_push f xs x
-
--- TESTS AND SEARCHES
-
-pub some_hit : {A : Type 0} (p : A → Bool) (x : A) (xs : List A) → p x ≡ true → some p (x ∷ xs) ≡ true
-unfolding some
-some_hit p x xs e = rw e
-
-pub some_skip : {A : Type 0} (p : A → Bool) (x : A) (xs : List A) → p x ≡ false → some p (x ∷ xs) ≡ some p xs
-unfolding some
-some_skip p x xs e = rw e
-
-pub some_none : {A : Type 0} (p : A → Bool) → some p [] ≡ false
-unfolding some
-some_none p = refl
-
-pub find_hit : {A : Type 0} (p : A → Bool) (x : A) (xs : List A) → p x ≡ true → find p (x ∷ xs) ≡ x ∷ []
-unfolding find
-find_hit p x xs e = rw e
-
-pub find_skip : {A : Type 0} (p : A → Bool) (x : A) (xs : List A) → p x ≡ false → find p (x ∷ xs) ≡ find p xs
-unfolding find
-find_skip p x xs e = rw e
-
-pub find_none : {A : Type 0} (p : A → Bool) → find p [] ≡ []
-unfolding find
-find_none p = refl
-
--- A LOOP THAT LOOKS: what is left decides
-
--- an element that is read at a place
-pub at_item : {X : Type 0} (xs : List X) (i : ℕ) (x : X) → i < length xs → x ≡ get_or xs i x → drop i xs ≡ x ∷ drop (i + 1) xs
-at_item xs i x l e = drop_more xs i x l ∙ ap (λ y. y ∷ drop (i + 1) xs) (sym e)
-
-module _ {X Y B : Type 0} (f : X → Y) (g : List Y → B) (xs : List X) (i : ℕ) (inv : g (map f (drop i xs)) ≡ g (map f xs)) where
-  pub look_more : (x : X) → drop i xs ≡ x ∷ drop (i + 1) xs → g (f x ∷ map f (drop (i + 1) xs)) ≡ g (map f (drop (i + 1) xs)) → g (map f (drop (i + 1) xs)) ≡ g (map f xs)
-  look_more x at e = sym e ∙ ap (λ ys. g (map f ys)) (sym at) ∙ inv
-
-  pub look_here : (x : X) (v : B) → drop i xs ≡ x ∷ drop (i + 1) xs → g (f x ∷ map f (drop (i + 1) xs)) ≡ v → g (map f xs) ≡ v
-  look_here x v at e = sym inv ∙ ap (λ ys. g (map f ys)) at ∙ e
-
-  pub look_none : length xs ≤ i → g (map f xs) ≡ g []
-  look_none l = sym inv ∙ ap (λ ys. g (map f ys)) (drop_all i xs l)
 
 -- A LOOP THAT GATHERS
 
@@ -70,39 +27,10 @@ pub joined_hom : {Y Z : Type 0} (f : Y → List Z) (ys : List Y) (y : Y) → fla
 joined_hom f [] y = refl
 joined_hom f (x ∷ ys) y = ap (λ zs. f x ++ zs) (joined_hom f ys y) ∙ sym (append_assoc (f x) (flat_map f ys) (flat_map f (y ∷ [])))
 
-pub keep_none : {A : Type 0} (p : A → Bool) → keep p [] ≡ []
-unfolding keep
-keep_none p = refl
-
-pub keep_yes : {A : Type 0} (p : A → Bool) (x : A) → p x ≡ true → keep p (x ∷ []) ≡ x ∷ []
-unfolding keep
-keep_yes p x e = rw e
-
-pub keep_no : {A : Type 0} (p : A → Bool) (x : A) → p x ≡ false → keep p (x ∷ []) ≡ []
-unfolding keep
-keep_no p x e = rw e
-
-pub keep_hom : {A : Type 0} (p : A → Bool) (ys : List A) (y : A) → keep p (ys ++ (y ∷ [])) ≡ keep p ys ++ keep p (y ∷ [])
-unfolding keep
-keep_hom p [] y = refl
-keep_hom p (x ∷ ys) y = pick (p x) (keep_hom p ys y)
-  where
-    pick : (b : Bool) → keep p (ys ++ (y ∷ [])) ≡ keep p ys ++ cond (p y) (y ∷ []) [] → cond b (x ∷ keep p (ys ++ (y ∷ []))) (keep p (ys ++ (y ∷ []))) ≡ cond b (x ∷ keep p ys) (keep p ys) ++ cond (p y) (y ∷ []) []
-    pick true h = ap (λ zs. x ∷ zs) h
-    pick false h = h
-
 -- the same for a loop whose turns each join what one element gives
 pub gather_joined : {X Y Z : Type 0} (f : X → Y) (g : Y → List Z) (base : List Z) (xs : List X) (i : ℕ) (d : X) (acc acc' : List Z) → i < length xs → acc ≡ base ++ flat_map g (map f (take i xs)) → acc' ≡ acc ++ g (f (get_or xs i d)) →
     acc' ≡ base ++ flat_map g (map f (take (i + 1) xs))
 gather_joined f g base xs i d acc acc' l inv e = gather_more f (flat_map g) base xs (joined_hom g) i d acc acc' l inv (e ∙ ap (λ ys. acc ++ ys) (sym (append-nil (g (f (get_or xs i d))))))
-
--- a push of what is called for
-pub pushed_as : {X Y : Type 0} (f : X → Y) (b : Bool) (ys xs : List X) (x : X) (zs : List Y) → ys ≡ cond b (xs ++ x ∷ []) xs → b ≡ true → f x ∷ [] ≡ zs → map f ys ≡ map f xs ++ zs
-pushed_as f b ys xs x zs e t q = pushed f b ys xs x e t ∙ ap (λ ws. map f xs ++ ws) q
-
--- nothing is called for
-pub none_more : {A : Type 0} (xs zs : List A) → zs ≡ [] → xs ≡ xs ++ zs
-none_more xs zs e = sym (append-nil xs) ∙ ap (λ ys. xs ++ ys) (sym e)
 
 -- and for an element that is read whole
 pub gather_item : {X Y Z : Type 0} (f : X → Y) (g : Y → List Z) (base : List Z) (xs : List X) (i : ℕ) (x : X) (acc acc' : List Z) → i < length xs → x ≡ get_or xs i x → acc ≡ base ++ flat_map g (map f (take i xs)) → acc' ≡ acc ++ g (f x) →

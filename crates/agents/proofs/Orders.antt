@@ -1,36 +1,33 @@
 -- Orders in bytes, one by one.
 -- Assumes nothing.
-use Rattle.std.proofs.Common.{◌≡◌, ℕ, zero, suc, ◌+◌, ◌-◌, ◌*◌, ◌<◌, ◌≤◌, Bool, true, false, ◌&&◌, eqb, List, [], ◌∷◌, ◌++◌, map, length, get_or, take, drop, set, sym, refl, ap, ◌∙◌, subst, append_assoc, append-nil, add-one, arith, length-drop, drop-drop}
-use Rattle.std.proofs.lemmas.List.{take_more_set, take_rest, length-map}
-use Rattle.std.proofs.lemmas.Bool.{eq-eqb, ne_eqb, le-leb, le-ltb}
+use Rattle.std.proofs.Common.{◌≡◌, ℕ, zero, suc, ◌+◌, ◌-◌, ◌*◌, ◌/◌, ◌<◌, ◌≤◌, Bool, true, false, ◌&&◌, eqb, List, [], ◌∷◌, ◌++◌, map, length, get_or, take, drop, Err, sym, refl, ap, ◌∙◌, append_assoc, append-nil, arith, length-drop}
+use Rattle.std.proofs.lemmas.List.{take_rest, length-map}
+use Rattle.std.proofs.lemmas.Bool.{eq-eqb, le-leb, le-ltb}
+use Rattle.octets.proofs.Numbers.{length_take_under}
+use Rattle.octets.proofs.Filling.{tags_within}
 use Rattle.model.specs.Wire.{Bytes, garbled, meant, byte_at, field, tags_in_lem, spec_in_lem, Runs}
 use Rattle.model.specs.Lines.{call_in}
 use Rattle.model.specs.State as s
 use Rattle.model.specs.Calls as m
-use Rattle.model.specs.Answers.{tags_at, order_width, order_in, is_order_in, orders_in_lem, are_orders_in, read_runs, read_answer_lem}
+use Rattle.model.specs.Answers.{tags_at, order_width, order_in, is_order_in, orders_in_lem, are_orders_in, read_runs}
 use Rattle.agents.specs.Memory.{order_of}
-use Rattle.agents.specs.Answering.{OrderRead}
+use Rattle.agents.specs.Answering.{OrderRead, OrdersAs, HeardAs}
+use Rattle.agents.specs.declared.agent.Passed.{Passed}
+use Rattle.agents.specs.declared.agent.Passed.TheVariants.{NoAnswer, NoMemory, Refused, NotLast}
 use Rattle.agents.specs.declared.order.Order.{Order}
 
--- one tag more
-pub tags_push : (i : ℕ) (bs : Bytes) → tags_in_lem (suc i) bs ≡ tags_in_lem i bs ++ (field 4 (4 * i) bs ∷ [])
-unfolding tags_in_lem
-tags_push zero bs = refl
-tags_push (suc i) bs =
-    let h = tags_push i (drop 4 bs) in let e : 4 * suc i ≡ 4 + 4 * i = omega arith in
-    rw (e, ← drop-drop (4 * i) 4 bs) (ap (λ (ts : List ℕ). field 4 0 bs ∷ ts) h)
-
-pub tags_more : (i v : ℕ) (bs tags : Bytes) → i < length tags → v ≡ field 4 (4 * i) bs → take i tags ≡ tags_in_lem i bs → take (i + 1) (set tags i v) ≡ tags_in_lem (i + 1) bs
-tags_more i v bs tags l e h = rw (take_more_set tags i v l, add-one i, tags_push i bs, h, e)
-
-pub tags_none : (bs tags : Bytes) → take 0 tags ≡ tags_in_lem 0 bs
-unfolding tags_in_lem
-tags_none bs tags = refl
+-- the tags that were filled in
+pub tags_filled : (t : ℕ) (bs out : Bytes) → 14 + 4 * t ≤ length bs → take (length (take (13 + 4 * t - 13) (drop 13 bs)) / 4) out ≡ tags_in_lem (length (take (13 + 4 * t - 13) (drop 13 bs)) / 4) (take (13 + 4 * t - 13) (drop 13 bs)) →
+    take t out ≡ tags_in_lem t (drop 13 bs)
+tags_filled t bs out l e =
+    let k : 13 + 4 * t - 13 ≡ 4 * t = omega arith in let d = length-drop 13 bs in let w : 4 * t ≤ length (drop 13 bs) = omega (arith, l, d) in
+    let m : length (take (13 + 4 * t - 13) (drop 13 bs)) / 4 ≡ t = (let a = ap (λ (n : ℕ). length (take n (drop 13 bs))) k in let b = length_take_under (4 * t) (drop 13 bs) w in omega (arith, a, b)) in
+    ap (λ (n : ℕ). take n out) (sym m) ∙ e ∙ ap (λ (n : ℕ). tags_in_lem n (take (13 + 4 * t - 13) (drop 13 bs))) m ∙ ap (λ (n : ℕ). tags_in_lem t (take n (drop 13 bs))) k ∙ tags_within t (drop 13 bs) w
 
 -- a likeness, by its parts
-pub spec_read : (t : ℕ) (bs ts : Bytes) (i c m : ℕ) (a : Bool) → i ≡ field 4 0 bs → c ≡ field 4 4 bs → m ≡ field 4 8 bs → a ≡ eqb (get_or bs (13 + 4 * t) 0) 1 → ts ≡ tags_in_lem t (take (length bs - 13) (drop 13 bs)) →
+pub spec_read : (t : ℕ) (bs ts : Bytes) (i c m : ℕ) (a : Bool) → i ≡ field 4 0 bs → c ≡ field 4 4 bs → m ≡ field 4 8 bs → a ≡ eqb (get_or bs (13 + 4 * t) 0) 1 → ts ≡ tags_in_lem t (drop 13 bs) →
     ◌≡◌ {A = s.Spec} (record { image = i; cpu = c; mem = m; tags = ts; apart = a }) (spec_in_lem t bs)
-spec_read t bs ts i c m a p q r s g = let h : ts ≡ tags_in_lem t (drop 13 bs) = g ∙ ap (tags_in_lem t) (take_rest bs 13) in λ j. record { image = p j; cpu = q j; mem = r j; tags = h j; apart = s j }
+spec_read t bs ts i c m a p q r s h = λ j. record { image = p j; cpu = q j; mem = r j; tags = h j; apart = s j }
 
 -- an order that is there whole
 pub order_fits_lem : (bs : Bytes) → order_width bs ≤ length bs → tags_at bs ≤ 8 → byte_at (21 + 4 * tags_at bs) bs ≤ 1 → is_order_in bs ≡ true
@@ -39,63 +36,51 @@ order_fits_lem bs a b c = rw (le-leb _ _ a, le-leb _ _ b, le-leb _ _ c)
 pub order_read : (bs : Bytes) (i : ℕ) (a : s.Spec) → i ≡ field 8 0 bs → a ≡ spec_in_lem (tags_at bs) (take (length bs - 8) (drop 8 bs)) → ◌≡◌ {A = m.Order} (record { id = i; spec = a }) (order_in bs)
 order_read bs i a p q = let h : a ≡ spec_in_lem (tags_at bs) (drop 8 bs) = q ∙ ap (spec_in_lem (tags_at bs)) (take_rest bs 8) in λ j. record { id = p j; spec = h j }
 
--- orders one after the other: i of n were read, which end at a place
-pub record Reading (n : ℕ) (bs : Bytes) (i at : ℕ) (os : List m.Order) : Type 0 where
-  pub within : at ≤ length bs
-  pub fits : are_orders_in (n - i) (drop at bs) ≡ are_orders_in n bs
-  pub value : os ++ orders_in_lem (n - i) (drop at bs) ≡ orders_in_lem n bs
+-- orders one after the other: i of n were read, and these bytes are left
+pub record Reading (n : ℕ) (bs : Bytes) (i : ℕ) (rest : Bytes) (os : List m.Order) : Type 0 where
+  pub fits : are_orders_in (n - i) rest ≡ are_orders_in n bs
+  pub value : os ++ orders_in_lem (n - i) rest ≡ orders_in_lem n bs
 
-pub reading_none : (n : ℕ) (bs : Bytes) → Reading n bs 0 0 []
-reading_none n bs = let k : n - 0 ≡ n = omega arith in record { within = omega arith; fits = ap (λ (x : ℕ). are_orders_in x bs) k; value = ap (λ (x : ℕ). orders_in_lem x bs) k }
-
-module _ (n : ℕ) (bs : Bytes) (i at : ℕ) (os : List m.Order) (h : Reading n bs i at os) (l : i < n) where
-  fits_step : are_orders_in (n - i) (drop at bs) ≡ (is_order_in (drop at bs) && are_orders_in (n - (i + 1)) (drop (at + order_width (drop at bs)) bs))
+module _ (n : ℕ) (bs : Bytes) (i : ℕ) (rest : Bytes) (os : List m.Order) (h : Reading n bs i rest os) (l : i < n) where
+  fits_step : are_orders_in (n - i) rest ≡ (is_order_in rest && are_orders_in (n - (i + 1)) (drop (order_width rest) rest))
   unfolding are_orders_in
-  fits_step = let k : n - i ≡ suc (n - (i + 1)) = omega arith in rw (k, ← drop-drop (order_width (drop at bs)) at bs)
+  fits_step = let k : n - i ≡ suc (n - (i + 1)) = omega arith in rw k
 
-  value_step : orders_in_lem (n - i) (drop at bs) ≡ order_in (drop at bs) ∷ orders_in_lem (n - (i + 1)) (drop (at + order_width (drop at bs)) bs)
+  value_step : orders_in_lem (n - i) rest ≡ order_in rest ∷ orders_in_lem (n - (i + 1)) (drop (order_width rest) rest)
   unfolding orders_in_lem
-  value_step = let k : n - i ≡ suc (n - (i + 1)) = omega arith in rw (k, ← drop-drop (order_width (drop at bs)) at bs)
+  value_step = let k : n - i ≡ suc (n - (i + 1)) = omega arith in rw k
 
-  -- no order at the place
-  pub reading_bad : is_order_in (drop at bs) ≡ false → are_orders_in n bs ≡ false
+  -- no order is next
+  pub reading_bad : is_order_in rest ≡ false → are_orders_in n bs ≡ false
   reading_bad e = sym h.fits ∙ fits_step ∙ rw e
 
-  pub reading_more : (o : m.Order) (w : ℕ) → is_order_in (drop at bs) ≡ true → o ≡ order_in (drop at bs) → w ≡ order_width (drop at bs) → at + w ≤ length bs → Reading n bs (i + 1) (at + w) (os ++ (o ∷ []))
-  reading_more o w e v x b = record { within = b; fits = f; value = g }
+  pub reading_more : (o : Order) → OrderRead rest o → (os' : List m.Order) → os' ≡ os ++ (order_of o ∷ []) → Reading n bs (i + 1) (take (length rest - (22 + 4 * o.spec.count)) (drop (22 + 4 * o.spec.count) rest)) os'
+  reading_more o r os' q = record { fits = f; value = v }
     where
-      f : are_orders_in (n - (i + 1)) (drop (at + w) bs) ≡ are_orders_in n bs
-      f = sym (sym h.fits ∙ fits_step ∙ rw (e, x))
+      e : drop (22 + 4 * o.spec.count) rest ≡ drop (order_width rest) rest
+      e = ap (λ (t : ℕ). drop (22 + 4 * t) rest) r.count
 
-      g : (os ++ (o ∷ [])) ++ orders_in_lem (n - (i + 1)) (drop (at + w) bs) ≡ orders_in_lem n bs
-      g = append_assoc os (o ∷ []) (orders_in_lem (n - (i + 1)) (drop (at + w) bs)) ∙ ap (λ (ys : List m.Order). os ++ ys) (rw (v, x) (sym value_step)) ∙ h.value
+      left : take (length rest - (22 + 4 * o.spec.count)) (drop (22 + 4 * o.spec.count) rest) ≡ drop (22 + 4 * o.spec.count) rest
+      left = take_rest rest (22 + 4 * o.spec.count)
 
-module _ (n : ℕ) (bs : Bytes) (i at : ℕ) (os : List m.Order) (h : Reading n bs i at os) (l : n ≤ i) where
+      f : are_orders_in (n - (i + 1)) (take (length rest - (22 + 4 * o.spec.count)) (drop (22 + 4 * o.spec.count) rest)) ≡ are_orders_in n bs
+      f = rw (left, e) (sym (sym h.fits ∙ fits_step ∙ rw r.fits))
+
+      v : os' ++ orders_in_lem (n - (i + 1)) (take (length rest - (22 + 4 * o.spec.count)) (drop (22 + 4 * o.spec.count) rest)) ≡ orders_in_lem n bs
+      v = rw (q, left, e, r.value) (append_assoc os (order_in rest ∷ []) (orders_in_lem (n - (i + 1)) (drop (order_width rest) rest)) ∙ ap (λ (ys : List m.Order). os ++ ys) (sym value_step) ∙ h.value)
+
+module _ (n : ℕ) (bs : Bytes) (i : ℕ) (rest : Bytes) (os : List m.Order) (h : Reading n bs i rest os) (l : n ≤ i) where
   none_left : n - i ≡ 0
   none_left = omega arith
 
-  -- bytes behind the last
-  pub reading_left : (at ≡ length bs → ⊥) → are_orders_in n bs ≡ false
+  -- bytes behind the last, or none
+  pub reading_ends : (b : Bool) → b ≡ eqb (length rest) 0 → are_orders_in n bs ≡ b
   unfolding are_orders_in
-  reading_left f = let z : are_orders_in (n - i) (drop at bs) ≡ eqb (length (drop at bs)) 0 = rw none_left in let d = length-drop at bs in sym h.fits ∙ z ∙ ne_eqb _ _ (λ (e : length (drop at bs) ≡ 0). f (let w = h.within in omega arith))
-
-  pub reading_fits : at ≡ length bs → are_orders_in n bs ≡ true
-  unfolding are_orders_in
-  reading_fits e = let z : are_orders_in (n - i) (drop at bs) ≡ eqb (length (drop at bs)) 0 = rw none_left in let d = length-drop at bs in sym h.fits ∙ z ∙ eq-eqb _ _ (omega arith)
+  reading_ends b e = let z : are_orders_in (n - i) rest ≡ eqb (length rest) 0 = rw none_left in sym h.fits ∙ z ∙ sym e
 
   pub reading_all : os ≡ orders_in_lem n bs
   unfolding orders_in_lem
-  reading_all = let z : orders_in_lem (n - i) (drop at bs) ≡ [] = rw none_left in sym (append-nil os) ∙ ap (λ (ys : List m.Order). os ++ ys) (sym z) ∙ h.value
-
--- the same, of a slice as it is lent
-pub slice_bad : (n : ℕ) (bs : Bytes) (i at : ℕ) (os : List m.Order) → Reading n bs i at os → i < n → is_order_in (take (length bs - at) (drop at bs)) ≡ false → are_orders_in n bs ≡ false
-slice_bad n bs i at os h l e = reading_bad n bs i at os h l (sym (ap is_order_in (take_rest bs at)) ∙ e)
-
-pub slice_more : (n : ℕ) (bs : Bytes) (i at : ℕ) (os : List m.Order) → Reading n bs i at os → i < n → (o : Order) → OrderRead (take (length bs - at) (drop at bs)) o → (os' : List m.Order) → os' ≡ os ++ (order_of o ∷ []) →
-    Reading n bs (i + 1) (at + (22 + 4 * o.spec.count)) os'
-slice_more n bs i at os h l o r os' q =
-    let e = take_rest bs at in let d = length-drop at bs in let c = r.count ∙ ap tags_at e in let w = r.within in let k = ap length e in
-    subst (Reading n bs (i + 1) (at + (22 + 4 * o.spec.count))) (sym q) (reading_more n bs i at os h l (order_of o) (22 + 4 * o.spec.count) (sym (ap is_order_in e) ∙ r.fits) (r.value ∙ ap order_in e) (ap (λ (x : ℕ). 22 + 4 * x) c) (let z = h.within in omega arith))
+  reading_all = let z : orders_in_lem (n - i) rest ≡ [] = rw none_left in sym (append-nil os) ∙ ap (λ (ys : List m.Order). os ++ ys) (sym z) ∙ h.value
 
 -- an answer to a report, by its parts
 module _ (bs : Bytes) (l : 20 ≤ length bs) where
@@ -111,15 +96,14 @@ module _ (bs : Bytes) (l : 20 ≤ length bs) where
       let g : are_orders_in (field 2 18 bs) (drop 20 bs) ≡ false = sym (ap (λ (x : ℕ). are_orders_in x (drop 20 bs)) s) ∙ sym (ap (are_orders_in c) (take_rest bs 20)) ∙ f in
       rw (le-leb 20 (length bs) l, g)
 
--- the first byte and the rest
-pub answer_runs : (bs : Bytes) → 0 < length bs → get_or bs 0 0 ≡ 2 → read_runs (take (length bs - 1) (drop 1 bs)) ≡ read_answer_lem bs
-answer_runs [] h e = absurd (omega arith)
-answer_runs (k ∷ bs) h e = rw (take_rest (k ∷ bs) 1, e)
+-- and why it is none
+pub runs_unread : (bs : Bytes) → 20 ≤ length bs → (c : ℕ) (e : Passed) → c ≡ field 2 18 bs → OrdersAs c (take (length bs - 20) (drop 20 bs)) (Err e) → HeardAs (read_runs bs) (Err e)
+runs_unread bs l c NoAnswer s h = λ k e n os p. let g = runs_bad bs l c s h in let z : ◌≡◌ {A = ℕ} 0 1 = cc in omega arith
+runs_unread bs l c NoMemory s h = tt
+runs_unread bs l c (Refused k) s h = absurd h
+runs_unread bs l c NotLast s h = absurd h
 
 -- a frame
-pub frame_bad : (line : Bytes) → 8 ≤ length line → (field 4 0 line + 4 ≡ length line → ⊥) → [] ≡ call_in line
-frame_bad line l f = rw (le-ltb (length line) 8 l, ne_eqb (field 4 0 line + 4) (length line) f)
-
 pub frame_good : (line : Bytes) → 8 ≤ length line → field 4 0 line + 4 ≡ length line → take (length line - 8) (drop 8 line) ≡ call_in line
 frame_good line l e = rw (le-ltb (length line) 8 l, eq-eqb (field 4 0 line + 4) (length line) e, take_rest line 8)
 

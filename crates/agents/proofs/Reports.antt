@@ -1,12 +1,13 @@
 -- A report's bytes, part by part.
 -- Assumes nothing.
-use Rattle.std.proofs.Common.{◌≡◌, ℕ, ◌+◌, ◌*◌, ◌/◌, ◌%◌, List, [], ◌∷◌, ◌++◌, length, get_or, sym, refl, ap, ◌∙◌, append_assoc, arith, length-append}
+use Rattle.std.proofs.Common.{◌≡◌, ℕ, ◌+◌, ◌*◌, ◌/◌, ◌%◌, Bool, true, false, List, [], ◌∷◌, ◌++◌, length, sym, refl, ap, ◌∙◌, append_assoc, arith, length-append}
+use mir.Val.{bool_byte}
 use Rattle.std.specs.List.{flat_map}
 use Rattle.model.specs.Calls.{Seen, Order, Report}
 use Rattle.model.specs.Lines.{framed}
 use Rattle.model.specs.Wire.{Bytes, bytes_of, flag_of, seen_bytes, call_bytes}
 use Rattle.model.specs.World.{is_ready_in, may_run}
-use Rattle.octets.proofs.Numbers.{bytes_of_four, bytes_of_eight, length_bytes_of}
+use Rattle.octets.proofs.Numbers.{length_bytes_of}
 use Rattle.agents.specs.Reporting.{front_of, task_bytes_lem, tasks_bytes}
 
 pub bytes_of_two : (n : ℕ) → bytes_of 2 n ≡ n / 256 % 256 ∷ n % 256 ∷ []
@@ -48,7 +49,18 @@ report_parts tag k l n c xs os e = simp append_assoc (ap (λ (m : ℕ). bytes_of
     same : body ≡ call_bytes (Report k l n (may_run xs os))
     same = rw (tasks_joined xs os, length_may_run xs os, e)
 
--- the front, byte by byte
-pub front_bytes : (tag k l n c v : ℕ) (a b x y z w : Bytes) → v ≡ c → a ≡ (25 + 9 * v) / 16777216 % 256 ∷ (25 + 9 * v) / 65536 % 256 ∷ (25 + 9 * v) / 256 % 256 ∷ (25 + 9 * v) % 256 ∷ [] → b ≡ tag / 16777216 % 256 ∷ tag / 65536 % 256 ∷ tag / 256 % 256 ∷ tag % 256 ∷ [] → x ≡ k / 256 % 256 ∷ k % 256 ∷ [] → y ≡ l / 72057594037927936 % 256 ∷ l / 281474976710656 % 256 ∷ l / 1099511627776 % 256 ∷ l / 4294967296 % 256 ∷ l / 16777216 % 256 ∷ l / 65536 % 256 ∷ l / 256 % 256 ∷ l % 256 ∷ [] → z ≡ n / 72057594037927936 % 256 ∷ n / 281474976710656 % 256 ∷ n / 1099511627776 % 256 ∷ n / 4294967296 % 256 ∷ n / 16777216 % 256 ∷ n / 65536 % 256 ∷ n / 256 % 256 ∷ n % 256 ∷ [] → w ≡ c / 256 % 256 ∷ c % 256 ∷ [] →
-    get_or a 0 0 ∷ get_or a 1 0 ∷ get_or a 2 0 ∷ get_or a 3 0 ∷ get_or b 0 0 ∷ get_or b 1 0 ∷ get_or b 2 0 ∷ get_or b 3 0 ∷ 7 ∷ get_or x 0 0 ∷ get_or x 1 0 ∷ get_or y 0 0 ∷ get_or y 1 0 ∷ get_or y 2 0 ∷ get_or y 3 0 ∷ get_or y 4 0 ∷ get_or y 5 0 ∷ get_or y 6 0 ∷ get_or y 7 0 ∷ get_or z 0 0 ∷ get_or z 1 0 ∷ get_or z 2 0 ∷ get_or z 3 0 ∷ get_or z 4 0 ∷ get_or z 5 0 ∷ get_or z 6 0 ∷ get_or z 7 0 ∷ get_or w 0 0 ∷ get_or w 1 0 ∷ [] ≡ front_of tag k l n c
-front_bytes tag k l n c v a b x y z w i ea eb ex ey ez ew = rw (ea, eb, ex, ey, ez, ew, bytes_of_four (25 + 9 * c), bytes_of_four tag, bytes_of_two k, bytes_of_eight l, bytes_of_eight n, bytes_of_two c, i)
+pub report_whole : (tag k l n c : ℕ) (xs : List Seen) (os : List Order) (v0 v1 v2 : Bytes) → v0 ≡ [] → v1 ≡ v0 ++ front_of tag k l n c → v2 ≡ v1 ++ tasks_bytes xs os → c ≡ length os → v2 ≡ framed tag (call_bytes (Report k l n (may_run xs os)))
+report_whole tag k l n c xs os v0 v1 v2 e0 e1 e2 h = e2 ∙ ap (λ (bs : Bytes). bs ++ tasks_bytes xs os) (e1 ∙ ap (λ (bs : Bytes). bs ++ front_of tag k l n c) e0) ∙ report_parts tag k l n c xs os h
+
+-- a task and its flag
+flag_byte : (b : Bool) → bool_byte b ≡ flag_of b
+flag_byte true = refl
+flag_byte false = refl
+
+pub task_joined : (xs : List Seen) (i u : ℕ) (b : Bool) (old v1 v2 a : Bytes) → v1 ≡ old ++ a → v2 ≡ v1 ++ (u ∷ []) → a ≡ bytes_of 8 i → u ≡ bool_byte b → b ≡ is_ready_in i xs → v2 ≡ old ++ task_bytes_lem xs i
+task_joined xs i u b old v1 v2 a e1 e2 ea eu eb = rw (e2, e1, ea, eu, flag_byte b, eb) (append_assoc old (bytes_of 8 i) (flag_of (is_ready_in i xs) ∷ []))
+
+-- the front, number by number
+pub front_joined : (tag k l n c : ℕ) (old v1 v2 v3 v4 v5 v6 v7 a b x y z w : Bytes) → v1 ≡ old ++ a → v2 ≡ v1 ++ b → v3 ≡ v2 ++ (7 ∷ []) → v4 ≡ v3 ++ x → v5 ≡ v4 ++ y → v6 ≡ v5 ++ z → v7 ≡ v6 ++ w →
+    a ≡ bytes_of 4 (25 + 9 * c) → b ≡ bytes_of 4 tag → x ≡ bytes_of 2 k → y ≡ bytes_of 8 l → z ≡ bytes_of 8 n → w ≡ bytes_of 2 c → v7 ≡ old ++ front_of tag k l n c
+front_joined tag k l n c old v1 v2 v3 v4 v5 v6 v7 a b x y z w e1 e2 e3 e4 e5 e6 e7 ea eb ex ey ez ew = rw (e7, e6, e5, e4, e3, e2, e1, ea, eb, ex, ey, ez, ew) (simp append_assoc)

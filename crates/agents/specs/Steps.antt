@@ -1,6 +1,6 @@
 -- An agent's memory as the model's agent, and what its moves do to that.
 -- Assumes nothing.
-use Rattle.std.specs.Prelude.{◌≡◌, ℕ, ◌+◌, ◌%◌, ◌≤◌, Bool, true, false, cond, ◌&&◌, List, ◌∷◌, ◌++◌, Ok, Err, vec_items, Result, Vec, ◌==◌}
+use Rattle.std.specs.Prelude.{◌≡◌, ℕ, ◌+◌, ◌%◌, ◌≤◌, Bool, false, cond, ◌&&◌, List, ◌∷◌, ◌++◌, Ok, Err, vec_items, Result, Vec, ◌==◌}
 use Rattle.std.specs.declared.alloc.Global.{Global}
 use Rattle.std.specs.declared.alloc.AllocError.{AllocError}
 use Rattle.model.specs.Lists.{some}
@@ -15,6 +15,7 @@ use Rattle.agents.specs.declared.agent.Agent.{Agent}
 use Rattle.agents.specs.declared.heard.Run.{Run}
 use Rattle.agents.specs.declared.agent.Unsent.{Unsent}
 use Rattle.agents.specs.declared.agent.Unsent.TheVariants as unsent
+use Rattle.agents.specs.declared.agent.NotRunning.{NotRunning}
 use Rattle.agents.specs.declared.agent.Passed.{Passed}
 use Rattle.agents.specs.declared.agent.Passed.TheVariants as passed
 
@@ -100,10 +101,14 @@ pub record Gone (t : ℕ) (xs ys : List Seen) : Type 0 where
   pub was : xs ≡ before ++ found ∷ behind
   pub is : ys ≡ before ++ behind
 
-abbrev pub Becomes : ℕ → Bool → w.Agent → Bool → w.Agent → Type 0
-Becomes t ready a true b = Marked t ready a.runs b.runs × (b ≡ w.running b.runs a)
-Becomes t ready a false b = (b ≡ a) × (some (w.is_seen t) a.runs ≡ false)
+-- the task doesn't run here, and it is the one that was asked for
+abbrev pub Missed : ℕ → w.Agent → NotRunning → Type 0
+Missed t a e = (some (w.is_seen t) a.runs ≡ false) × (e.0.0 ≡ t)
 
-abbrev pub Dies : ℕ → w.Agent → Bool → w.Agent → Type 0
-Dies t a true b = Gone t a.runs b.runs × (b ≡ w.running b.runs a)
-Dies t a false b = (b ≡ a) × (some (w.is_seen t) a.runs ≡ false)
+abbrev pub Becomes : ℕ → Bool → w.Agent → Result (Unit {0}) NotRunning → w.Agent → Type 0
+Becomes t ready a (Ok u) b = Marked t ready a.runs b.runs × (b ≡ w.running b.runs a)
+Becomes t ready a (Err e) b = (b ≡ a) × Missed t a e
+
+abbrev pub Dies : ℕ → w.Agent → Result (Unit {0}) NotRunning → w.Agent → Type 0
+Dies t a (Ok u) b = Gone t a.runs b.runs × (b ≡ w.running b.runs a)
+Dies t a (Err e) b = (b ≡ a) × Missed t a e

@@ -1,63 +1,11 @@
 // What is stopped and started, from what ran before and what runs after.
-ghost use Rattle.std.specs.Prelude.{◌≡◌, ◌++◌, IfOk, OnOk};
+ghost use Rattle.std.specs.Prelude.{◌≡◌, IfOk};
 ghost use Rattle.agents.specs.Memory.{deeds_of, orders_of, seens_of};
-ghost use Rattle.agents.specs.Moves.{deeds_for, start_for, starts_for, stop_for, stops_for};
+ghost use Rattle.agents.specs.Moves.{deeds_for};
 
 use crate::order::{Deed, Order, Seen};
 use crate::running::{order_for, runs};
-use jobs::ids::TaskId;
 use std::alloc::{AllocError, Global};
-
-fn stop_one(deeds: &mut Vec<Deed>, after: &[Seen], task: TaskId) -> Result<(), AllocError>
-    ensures { OnOk result (deeds_of deeds.new.items ≡ deeds_of deeds.old.items ++ stop_for (seens_of after.now) task.0) }
-{
-    if !runs(after, task) {
-        deeds.push(Deed::Stop(task))?;
-    }
-    Ok(())
-}
-
-// What runs no more.
-fn stop_all(deeds: &mut Vec<Deed>, before: &[Seen], after: &[Seen]) -> Result<(), AllocError>
-    ensures { OnOk result (deeds_of deeds.new.items ≡ deeds_of deeds.old.items ++ stops_for (seens_of after.now) (seens_of before.now)) }
-{
-    for seen in before {
-        stop_one(deeds, after, seen.task)?;
-    }
-    Ok(())
-}
-
-fn start_one(
-    deeds: &mut Vec<Deed>,
-    before: &[Seen],
-    orders: &[Order],
-    task: TaskId,
-) -> Result<(), AllocError>
-    ensures { OnOk result (deeds_of deeds.new.items ≡ deeds_of deeds.old.items ++ start_for (seens_of before.now) (orders_of orders.now) task.0) }
-{
-    if runs(before, task) {
-        return Ok(());
-    }
-    if let Some(order) = order_for(orders, task) {
-        deeds.push(Deed::Start(order))?;
-    }
-    Ok(())
-}
-
-// What runs only now.
-fn start_all(
-    deeds: &mut Vec<Deed>,
-    before: &[Seen],
-    after: &[Seen],
-    orders: &[Order],
-) -> Result<(), AllocError>
-    ensures { OnOk result (deeds_of deeds.new.items ≡ deeds_of deeds.old.items ++ starts_for (seens_of before.now) (orders_of orders.now) (seens_of after.now)) }
-{
-    for seen in after {
-        start_one(deeds, before, orders, seen.task)?;
-    }
-    Ok(())
-}
 
 // What is done: all that is stopped, then all that is started.
 pub fn deeds_between(
@@ -68,8 +16,15 @@ pub fn deeds_between(
 ) -> Result<Vec<Deed>, AllocError>
     ensures { IfOk result (λ v. deeds_of v.items ≡ deeds_for (seens_of before.now) (seens_of after.now) (orders_of orders.now)) }
 {
-    let mut deeds = Vec::new(heap);
-    stop_all(&mut deeds, before, after)?;
-    start_all(&mut deeds, before, after, orders)?;
-    Ok(deeds)
+    // What runs no more.
+    let stops = before
+        .iter()
+        .filter(|seen| !runs(after, seen.task))
+        .map(|seen| Deed::Stop(seen.task));
+    // What runs only now.
+    let starts = after
+        .iter()
+        .filter(|seen| !runs(before, seen.task))
+        .filter_map(|seen| order_for(orders, seen.task).map(Deed::Start));
+    stops.chain(starts).collect(heap)
 }

@@ -3,10 +3,7 @@ ghost use Rattle.std.specs.Prelude.{◌≡◌, ◌+◌, ◌<◌, ◌&&◌, ◌==
 
 use jobs::ids::{Life, MachineId, ReportNumber};
 
-// The last number that a report may have, as the herd takes none above it.
-pub const LAST: u64 = 4_611_686_018_427_387_904;
-
-#[derive(Clone, Copy)]
+#[derive(Clone, Copy, Debug, PartialEq, Eq)]
 pub struct Head {
     pub machine: MachineId,
     pub life: Life,
@@ -44,8 +41,6 @@ impl Head {
     pub fn same(self, other: Head) -> bool
         ensures { result ≡ (other.machine.0 == self.machine.0 && other.life.0 == self.life.0 && other.number.0 == self.number.0) }
     {
-        other.machine.0 == self.machine.0
-            && other.life.0 == self.life.0
-            && other.number.0 == self.number.0
+        self == other
     }
 }

@@ -11,13 +11,3 @@ pub struct Run {
     pub orders: Vec<Order>,
     ghost few: { vec_len orders ≤ 65535 },
 }
-
-// What bytes say to an agent.
-#[derive(Drop)]
-pub enum Heard {
-    Run(Run),
-    Refused(u8),
-    // An answer to something else, or none.
-    Other,
-    NoMemory,
-}

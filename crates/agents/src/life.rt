@@ -3,14 +3,11 @@ ghost use Rattle.std.specs.Prelude.{◌≡◌, Ok};
 ghost use Rattle.model.specs.Wire.{meant};
 ghost use Rattle.agents.specs.LifeFile.{Reads, Rises, life_bytes_lem, read_life_lem};
 
-use jobs::ids::Life;
+use jobs::ids::{LAST, Life};
 use octets::field::number_at;
 
-// The last life that an agent may have, as the herd takes none above it.
-pub const LAST: u64 = 4_611_686_018_427_387_904;
-
 // Why an agent may not come up.
-#[derive(Clone, Copy)]
+#[derive(Clone, Copy, Debug, PartialEq, Eq)]
 pub enum Unfit {
     Damaged,
     Last,
@@ -49,9 +46,7 @@ pub fn first_life() -> Life
 pub fn next_life(file: &[u8]) -> Result<Life, Unfit>
     ensures { Rises (read_life_lem file.now) result }
 {
-    let Some(last) = read_life(file) else {
-        return Err(Unfit::Damaged);
-    };
+    let last = read_life(file).ok_or(Unfit::Damaged)?;
     if last.0 >= LAST {
         return Err(Unfit::Last);
     }

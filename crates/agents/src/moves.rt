@@ -5,15 +5,15 @@ ghost use Rattle.model.specs.Lines.{call_in};
 ghost use Rattle.model.specs.World as w;
 ghost use Rattle.agents.specs.Steps.{Becomes, Dies, Hears, Reports, Starts, agent_of, machine_of, run_of};
 
-use crate::agent::{Agent, Passed, Unsent};
-use crate::head::{Head, LAST};
-use crate::heard::{Heard, Run};
+use crate::agent::{Agent, NotRunning, Passed, Unsent};
+use crate::head::Head;
+use crate::heard::Run;
 use crate::order::{Deed, Seen};
 use crate::read::{read_answer, unframed};
 use crate::report::report_bytes;
 use crate::running::place;
 use crate::turn::{Turn, obeyed, restarted};
-use jobs::ids::{Life, MachineId, TaskId};
+use jobs::ids::{LAST, Life, MachineId, TaskId};
 use std::alloc::{AllocError, Global};
 
 impl Agent {
@@ -38,13 +38,9 @@ impl Agent {
             return Err(Unsent::Last);
         }
         let head = self.head.next();
-        match report_bytes(heap, head, self.seens.as_slice(), self.orders.as_slice()) {
-            Ok(bytes) => {
-                self.head = head;
-                Ok(bytes)
-            }
-            Err(_) => Err(Unsent::NoMemory),
-        }
+        let bytes = report_bytes(heap, head, self.seens.as_slice(), self.orders.as_slice())?;
+        self.head = head;
+        Ok(bytes)
     }
 
     // What is ordered and doesn't run is started.
@@ -65,14 +61,10 @@ impl Agent {
             return Err(Passed::NotLast);
         }
         let Run { orders, .. } = run;
-        match obeyed(heap, self.seens.as_slice(), orders.as_slice()) {
-            Ok(Turn { seens, deeds }) => {
-                self.orders = orders;
-                self.seens = seens;
-                Ok(deeds)
-            }
-            Err(_) => Err(Passed::NoMemory),
-        }
+        let Turn { seens, deeds } = obeyed(heap, self.seens.as_slice(), orders.as_slice())?;
+        self.orders = orders;
+        self.seens = seens;
+        Ok(deeds)
     }
 
     // Bytes came: they are obeyed if they are the answer to the last report, and else passed over.
@@ -80,35 +72,27 @@ impl Agent {
         ensures agent { Hears (machine_of self.old) (read_answer_lem (call_in line.now)) (agent_of self.old) result (agent_of self.new) }
         ensures machine { machine_of self.new ≡ machine_of self.old }
     {
-        match read_answer(heap, unframed(line)) {
-            Heard::Run(run) => self.obey(heap, run),
-            Heard::Refused(number) => Err(Passed::Refused(number)),
-            Heard::Other => Err(Passed::NoAnswer),
-            Heard::NoMemory => Err(Passed::NoMemory),
-        }
+        let run = read_answer(heap, unframed(line))?;
+        self.obey(heap, run)
     }
 
-    // What runs becomes ready, or is so no more; whether it runs.
-    pub fn mark(&mut self, task: TaskId, ready: bool) -> bool
+    // What runs becomes ready, or is so no more.
+    pub fn mark(&mut self, task: TaskId, ready: bool) -> Result<(), NotRunning>
         ensures agent { Becomes task.0 ready (agent_of self.old) result (agent_of self.new) }
         ensures machine { machine_of self.new ≡ machine_of self.old }
     {
-        let Some(i) = place(self.seens.as_slice(), task) else {
-            return false;
-        };
+        let i = place(self.seens.as_slice(), task).ok_or(NotRunning(task))?;
         self.seens[i] = Seen { task, ready };
-        true
+        Ok(())
     }
 
-    // What runs dies; whether it ran.
-    pub fn die(&mut self, task: TaskId) -> bool
+    // What runs dies.
+    pub fn die(&mut self, task: TaskId) -> Result<(), NotRunning>
         ensures agent { Dies task.0 (agent_of self.old) result (agent_of self.new) }
         ensures machine { machine_of self.new ≡ machine_of self.old }
     {
-        let Some(i) = place(self.seens.as_slice(), task) else {
-            return false;
-        };
+        let i = place(self.seens.as_slice(), task).ok_or(NotRunning(task))?;
         let _ = self.seens.remove(i);
-        true
+        Ok(())
     }
 }

@@ -1,6 +1,7 @@
 // What is ordered, what runs, and what is done about it.
 use jobs::ids::TaskId;
 use jobs::spec::Spec;
+use std::fmt;
 
 // A task that is to run.
 #[derive(Clone, Copy)]
@@ -21,4 +22,16 @@ pub struct Seen {
 pub enum Deed {
     Stop(TaskId),
     Start(Order),
+}
+
+impl fmt::Display for Deed {
+    fn fmt<W: fmt::Write>(&self, f: &mut fmt::Formatter<W>) -> fmt::Result {
+        match self {
+            Deed::Stop(task) => write!(f, "stop {task}"),
+            Deed::Start(order) => {
+                let Order { task, spec } = order;
+                write!(f, "start {task} {} {} {}", spec.image, spec.cpu, spec.mem)
+            }
+        }
+    }
 }

@@ -1,38 +1,19 @@
 // Answers from bytes.
-ghost use Rattle.std.specs.Prelude.{◌≡◌, ◌+◌, ◌*◌, ◌≤◌, false, length, take, MatchOption};
-ghost use Rattle.model.specs.Wire.{spec_in_lem, tags_in_lem};
+ghost use Rattle.std.specs.Prelude.{◌≡◌, ◌+◌, ◌*◌, ◌≤◌, false, length, MatchOption};
+ghost use Rattle.model.specs.Wire.{spec_in_lem};
 ghost use Rattle.model.specs.Answers.{is_order_in, read_answer_lem, read_runs};
 ghost use Rattle.model.specs.Lines.{call_in};
 ghost use Rattle.jobs.specs.Values.{spec_of};
 ghost use Rattle.agents.specs.Answering.{HeardAs, OrderRead, OrdersAs};
 
+use crate::agent::Passed;
 use crate::head::Head;
-use crate::heard::{Heard, Run};
+use crate::heard::Run;
 use crate::order::Order;
 use jobs::ids::{Life, MachineId, ReportNumber, TaskId};
 use jobs::spec::Spec;
-use octets::field::number_at;
+use octets::field::{fill, number_at};
 use std::alloc::Global;
-
-// Orders, if bytes are such.
-#[derive(Drop)]
-enum Orders {
-    Whole(Vec<Order>),
-    Garbled,
-    NoMemory,
-}
-
-fn tags_in(bytes: &[u8], count: usize) -> [u32; 8]
-    requires few { count ≤ 8 }
-    requires whole { 4 * count ≤ length bytes.now }
-    ensures { take count result ≡ tags_in_lem count bytes.now }
-{
-    let mut tags = [0u32; 8];
-    for i in 0..count {
-        tags[i] = number_at(bytes, 4 * i);
-    }
-    tags
-}
 
 // A likeness with so many tags.
 fn spec_in(bytes: &[u8], count: u8) -> Spec
@@ -41,14 +22,16 @@ fn spec_in(bytes: &[u8], count: u8) -> Spec
     ensures value { spec_of result ≡ spec_in_lem count bytes.now }
     ensures count { result.count ≡ count }
 {
-    let tags = count as usize;
+    let end = 13 + 4 * count as usize;
+    let mut tags = [0u32; 8];
+    fill(&mut tags, &bytes[13..end]);
     Spec {
         image: number_at(bytes, 0),
         cpu: number_at(bytes, 4),
         mem: number_at(bytes, 8),
-        apart: bytes[13 + 4 * tags] == 1,
+        apart: bytes[end] == 1,
         count,
-        tags: tags_in(&bytes[13..], tags),
+        tags,
     }
 }
 
@@ -70,58 +53,48 @@ fn order_in(bytes: &[u8]) -> Option<Order>
 }
 
 // So many orders, and nothing behind them.
-fn orders_in(heap: Global, bytes: &[u8], count: u16) -> Orders
+fn orders_in(heap: Global, bytes: &[u8], count: u16) -> Result<Vec<Order>, Passed>
     ensures { OrdersAs count bytes.now result }
 {
     let mut orders = Vec::new(heap);
-    let mut at: usize = 0;
-    for i in 0..count {
-        let Some(order) = order_in(&bytes[at..]) else {
-            return Orders::Garbled;
-        };
-        at += 22 + 4 * order.spec.count as usize;
-        if orders.push(order).is_err() {
-            return Orders::NoMemory;
-        }
+    let mut rest = bytes;
+    for _ in 0..count {
+        let order = order_in(rest).ok_or(Passed::NoAnswer)?;
+        rest = &rest[22 + 4 * order.spec.count as usize..];
+        orders.push(order)?;
     }
-    if at != bytes.len() {
-        return Orders::Garbled;
+    if !rest.is_empty() {
+        return Err(Passed::NoAnswer);
     }
-    Orders::Whole(orders)
+    Ok(orders)
 }
 
 // The part of an answer to a report behind its kind.
-fn read_run(heap: Global, rest: &[u8]) -> Heard
+fn read_run(heap: Global, rest: &[u8]) -> Result<Run, Passed>
     ensures { HeardAs (read_runs rest.now) result }
 {
     if rest.len() < 20 {
-        return Heard::Other;
+        return Err(Passed::NoAnswer);
     }
-    match orders_in(heap, &rest[20..], number_at(rest, 18)) {
-        Orders::Whole(orders) => Heard::Run(Run {
-            head: Head {
-                machine: MachineId(number_at(rest, 0)),
-                life: Life(number_at(rest, 2)),
-                number: ReportNumber(number_at(rest, 10)),
-            },
-            orders,
-        }),
-        Orders::Garbled => Heard::Other,
-        Orders::NoMemory => Heard::NoMemory,
-    }
+    let orders = orders_in(heap, &rest[20..], number_at(rest, 18))?;
+    Ok(Run {
+        head: Head {
+            machine: MachineId(number_at(rest, 0)),
+            life: Life(number_at(rest, 2)),
+            number: ReportNumber(number_at(rest, 10)),
+        },
+        orders,
+    })
 }
 
 // What these bytes say.
-pub fn read_answer(heap: Global, bytes: &[u8]) -> Heard
+pub fn read_answer(heap: Global, bytes: &[u8]) -> Result<Run, Passed>
     ensures { HeardAs (read_answer_lem bytes.now) result }
 {
-    if bytes.len() == 0 {
-        return Heard::Other;
-    }
-    match bytes[0] {
-        0 if bytes.len() == 2 => Heard::Refused(bytes[1]),
-        2 => read_run(heap, &bytes[1..]),
-        _ => Heard::Other,
+    match bytes.first() {
+        Some(0) if bytes.len() == 2 => Err(Passed::Refused(bytes[1])),
+        Some(2) => read_run(heap, &bytes[1..]),
+        _ => Err(Passed::NoAnswer),
     }
 }
 

@@ -1,8 +1,8 @@
 // Reports as bytes.
-ghost use Rattle.std.specs.Prelude.{◌≡◌, ◌%◌, ◌≤◌, [], ◌∷◌, ◌++◌, length, IfOk, OnOk};
+ghost use Rattle.std.specs.Prelude.{◌≡◌, ◌%◌, ◌≤◌, ◌++◌, length, IfOk, OnOk};
 ghost use Rattle.model.specs.Calls.{Report};
 ghost use Rattle.model.specs.Lines.{framed};
-ghost use Rattle.model.specs.Wire.{bytes_of, call_bytes, flag_of};
+ghost use Rattle.model.specs.Wire.{call_bytes};
 ghost use Rattle.model.specs.World.{may_run};
 ghost use Rattle.agents.specs.Memory.{orders_of, seens_of};
 ghost use Rattle.agents.specs.Reporting.{front_of, task_bytes_lem, tasks_bytes};
@@ -14,33 +14,26 @@ use jobs::ids::TaskId;
 use std::alloc::{AllocError, Global};
 
 // The frame, the kind of the call, and a report's head and number of tasks.
-fn front(tag: u32, head: Head, count: u16) -> [u8; 29]
-    ensures { result ≡ front_of tag head.machine.0 head.life.0 head.number.0 count }
+fn add_front(bytes: &mut Vec<u8>, tag: u32, head: Head, count: u16) -> Result<(), AllocError>
+    ensures { OnOk result (bytes.new.items ≡ bytes.old.items ++ front_of tag head.machine.0 head.life.0 head.number.0 count) }
 {
-    let [a, b, c, d] = (25 + 9 * u32::from(count)).to_be_bytes();
-    let [e, f, g, h] = tag.to_be_bytes();
-    let [i, j] = head.machine.0.to_be_bytes();
-    let [k, l, m, n, o, p, q, r] = head.life.0.to_be_bytes();
-    let [s, t, u, v, w, x, y, z] = head.number.0.to_be_bytes();
-    let [many, few] = count.to_be_bytes();
-    [
-        a, b, c, d, e, f, g, h, 7, i, j, k, l, m, n, o, p, q, r, s, t, u, v, w, x, y, z, many, few,
-    ]
-}
-
-// A task in a report.
-fn task_bytes(task: TaskId, ready: bool) -> [u8; 9]
-    ensures { result ≡ bytes_of 8 task.0 ++ (flag_of ready ∷ []) }
-{
-    let [a, b, c, d, e, f, g, h] = task.0.to_be_bytes();
-    [a, b, c, d, e, f, g, h, if ready { 1 } else { 0 }]
+    bytes.extend_from_slice(&(25 + 9 * u32::from(count)).to_be_bytes())?;
+    bytes.extend_from_slice(&tag.to_be_bytes())?;
+    bytes.push(7)?;
+    bytes.extend_from_slice(&head.machine.0.to_be_bytes())?;
+    bytes.extend_from_slice(&head.life.0.to_be_bytes())?;
+    bytes.extend_from_slice(&head.number.0.to_be_bytes())?;
+    bytes.extend_from_slice(&count.to_be_bytes())?;
+    Ok(())
 }
 
 // One order more: its task, as ready if it runs and is.
 fn add_task(bytes: &mut Vec<u8>, seens: &[Seen], task: TaskId) -> Result<(), AllocError>
     ensures { OnOk result (bytes.new.items ≡ bytes.old.items ++ task_bytes_lem (seens_of seens.now) task.0) }
 {
-    bytes.extend_from_slice(&task_bytes(task, is_ready(seens, task)))
+    bytes.extend_from_slice(&task.0.to_be_bytes())?;
+    bytes.push(u8::from(is_ready(seens, task)))?;
+    Ok(())
 }
 
 // All that is ordered.
@@ -64,7 +57,8 @@ pub fn report_bytes(
     ensures { IfOk result (λ v. v.items ≡ framed (head.number.0 % 4294967296) (call_bytes (Report head.machine.0 head.life.0 head.number.0 (may_run (seens_of seens.now) (orders_of orders.now))))) }
 {
     let tag = (head.number.0 % 4_294_967_296) as u32;
-    let mut bytes = Vec::from_slice(heap, &front(tag, head, orders.len() as u16))?;
+    let mut bytes = Vec::new(heap);
+    add_front(&mut bytes, tag, head, orders.len() as u16)?;
     add_tasks(&mut bytes, seens, orders)?;
     Ok(bytes)
 }

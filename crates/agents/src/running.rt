@@ -1,8 +1,9 @@
 // What is ordered and what runs, by task.
-ghost use Rattle.std.specs.Prelude.{◌≡◌, [], ◌∷◌, ◌++◌, IfOk, OnOk};
+ghost use Rattle.std.specs.List as list;
+ghost use Rattle.std.specs.Prelude.{◌≡◌, ◌==◌, IfOk, OnOk};
 ghost use Rattle.model.specs.Lists.{find, some};
 ghost use Rattle.model.specs.World.{is_order, is_ready_in, is_seen};
-ghost use Rattle.agents.specs.Memory.{orders_of, seen_of, seens_of};
+ghost use Rattle.agents.specs.Memory.{orders_of, seens_of};
 ghost use Rattle.agents.specs.Moves.{Found, PlacedAt, kept, started, started_one};
 
 use crate::order::{Order, Seen};
@@ -12,78 +13,45 @@ use std::alloc::{AllocError, Global};
 fn is_ordered(orders: &[Order], task: TaskId) -> bool
     ensures { result ≡ some (is_order task.0) (orders_of orders.now) }
 {
-    for order in orders {
-        if order.task.0 == task.0 {
-            return true;
-        }
-    }
-    false
+    orders.iter().any(|order| task == order.task)
 }
 
 // The order for a task: the first, where hostile bytes gave several.
 pub fn order_for(orders: &[Order], task: TaskId) -> Option<Order>
-    ensures { Found (find (is_order task.0) (orders_of orders.now)) result }
+    ensures first { result ≡ list.find (λ o. task.0 == o.task.0) orders.now }
+    ensures found { Found (find (is_order task.0) (orders_of orders.now)) result }
 {
-    for order in orders {
-        if order.task.0 == task.0 {
-            return Some(*order);
-        }
-    }
-    None
+    orders.iter().find(|order| task == order.task).copied()
 }
 
 pub fn runs(seens: &[Seen], task: TaskId) -> bool
     ensures { result ≡ some (is_seen task.0) (seens_of seens.now) }
 {
-    for seen in seens {
-        if seen.task.0 == task.0 {
-            return true;
-        }
-    }
-    false
+    seens.iter().any(|seen| task == seen.task)
 }
 
 // Where a task stands among those that run.
 pub fn place(seens: &[Seen], task: TaskId) -> Option<usize>
     ensures { PlacedAt task.0 seens.now result }
 {
-    for (i, seen) in seens.iter().enumerate() {
-        if seen.task.0 == task.0 {
-            return Some(i);
-        }
-    }
-    None
+    seens.iter().position(|seen| task == seen.task)
 }
 
 pub fn is_ready(seens: &[Seen], task: TaskId) -> bool
     ensures { result ≡ is_ready_in task.0 (seens_of seens.now) }
 {
-    for seen in seens {
-        if seen.task.0 == task.0 && seen.ready {
-            return true;
-        }
-    }
-    false
-}
-
-fn keep_one(left: &mut Vec<Seen>, orders: &[Order], seen: Seen) -> Result<(), AllocError>
-    ensures { OnOk result (seens_of left.new.items ≡ seens_of left.old.items ++ kept (orders_of orders.now) (seen_of seen ∷ [])) }
-{
-    if is_ordered(orders, seen.task) {
-        left.push(seen)?;
-    }
-    Ok(())
+    seens.iter().any(|seen| task == seen.task && seen.ready)
 }
 
 // Of what runs, what is ordered.
 pub fn keep_ordered(heap: Global, seens: &[Seen], orders: &[Order]) -> Result<Vec<Seen>, AllocError>
     ensures { IfOk result (λ v. seens_of v.items ≡ kept (orders_of orders.now) (seens_of seens.now)) }
 {
-    let mut left = Vec::new(heap);
-    for seen in seens {
-        keep_one(&mut left, orders, *seen)?;
-    }
-    Ok(left)
+    seens
+        .iter()
+        .filter(|seen| is_ordered(orders, seen.task))
+        .copied()
+        .collect(heap)
 }
 
 // A task that doesn't run, runs too.
@@ -100,8 +68,8 @@ fn start_one(seens: &mut Vec<Seen>, task: TaskId) -> Result<(), AllocError>
 pub fn start_ordered(seens: &mut Vec<Seen>, orders: &[Order]) -> Result<(), AllocError>
     ensures { OnOk result (seens_of seens.new.items ≡ started (orders_of orders.now) (seens_of seens.old.items)) }
 {
-    for i in (0..orders.len()).rev() {
-        start_one(seens, orders[i].task)?;
+    for order in orders.iter().rev() {
+        start_one(seens, order.task)?;
     }
     Ok(())
 }

@@ -9,3 +9,4 @@ pub mod Writing
 pub mod Naming
 pub mod Listings
 pub mod Overlong
+pub mod Handing

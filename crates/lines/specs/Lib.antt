@@ -1,4 +1,6 @@
 pub mod Held
+pub mod Input
+pub mod Refusal
 pub mod Code
 pub mod Shown
 pub mod Text

@@ -4,7 +4,7 @@ ghost use Rattle.std.specs.Char.{digit_char};
 ghost use Rattle.lines.specs.Text.{hex_text, out_text};
 
 // A digit below 16, in lower case.
-fn digit(n: u8) -> u8
+pub fn digit(n: u8) -> u8
     requires { n < 16 }
     ensures { result ≡ digit_char n }
 {

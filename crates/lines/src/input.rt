@@ -1,7 +1,8 @@
 // What comes in, piece by piece, to its end.
-ghost use Rattle.std.specs.Prelude.{◌≢◌, ◌<◌, ◌≡◌, length, IfErr, IfOk, OnErr};
-ghost use Rattle.std.specs.IoError.{error_kind};
+ghost use Rattle.std.specs.Prelude.{◌≡◌, ◌<◌, Ok, length, IfOk, OnErr, OnOk};
+ghost use Rattle.std.specs.Fn.{CalledAt};
 ghost use Rattle.std.specs.Io.KnownBytes.{Consumes, IsAtEnd, Keeps};
+ghost use Rattle.lines.specs.Input.{HandedOn};
 
 use std::io;
 use std::io::{ErrorKind, Read};
@@ -28,20 +29,22 @@ pub fn next_bytes<'a, R: Read>(input: &mut R, chunk: &'a mut [u8]) -> io::Result
     Err(io::Error::from(ErrorKind::Interrupted))
 }
 
-// Hands on each piece that comes.
+// Hands on each piece that comes, to the end.
 pub fn each_piece<R: Read, F: FnMut(&[u8]) -> io::Result<()>>(
     input: &mut R,
-    mut take: F,
+    mut hand: F,
 ) -> io::Result<()>
-    requires { F.IsAlwaysCallable take }
+    requires { F.IsAlwaysCallable hand }
+    ensures handed { OnOk result ((last : F) × HandedOn (λ p x q. CalledAt F.FnMut p x (Ok tt) q) hand last (R.remaining input.old) (R.remaining input.new)) }
+    ensures end { OnOk result (IsAtEnd (R.remaining input.new)) }
 {
     let mut chunk = [0u8; CHUNK];
     for _ in 0..u64::MAX {
-        let bytes = next_bytes(input, &mut chunk)?;
-        if bytes.is_empty() {
-            break;
+        let piece = next_bytes(input, &mut chunk)?;
+        if piece.is_empty() {
+            return Ok(());
         }
-        take(bytes)?;
+        hand(piece)?;
     }
-    Ok(())
+    Err(io::Error::from(ErrorKind::Interrupted))
 }

@@ -2,6 +2,7 @@
 #![tactic(auto)]
 
 pub mod answer;
+pub mod decimal;
 pub mod hex;
 pub mod input;
 pub mod kind;

@@ -3,6 +3,7 @@ ghost use Rattle.std.specs.Prelude.{◌≡◌, ℕ, cond, List, ◌∷◌, ◌++
 ghost use Rattle.lines.specs.Resume.{list_in, resume};
 ghost use Rattle.lines.specs.Digits.{Digit};
 
+use crate::decimal::more;
 use crate::stage::{Nibble, Stage};
 
 // Where the reading stands then, and the byte that is read with it, if one is.
@@ -68,13 +69,7 @@ fn low(high: Nibble, c: u8) -> Step
 fn clock(before: Option<u64>, c: u8) -> Stage
     ensures { (bs ts : List ℕ) → resume result bs ts ≡ resume (Stage.Clock before) bs (c ∷ ts) }
 {
-    let Some(digit) = (c as char).to_digit(10) else {
-        return Stage::Bad;
-    };
-    let Some(tens) = before.unwrap_or(0).checked_mul(10) else {
-        return Stage::Bad;
-    };
-    match tens.checked_add(u64::from(digit)) {
+    match more(before, c) {
         Some(n) => Stage::Clock(Some(n)),
         None => Stage::Bad,
     }

@@ -1,7 +1,7 @@
 // Numbers that stand at a place in bytes, of any of the widths that there are.
-ghost use Rattle.std.specs.Prelude.{◌≡◌, ℕ, ◌+◌, ◌*◌, ◌^◌, ◌<◌, ◌≤◌, length};
+ghost use Rattle.std.specs.Prelude.{◌≡◌, ℕ, ◌+◌, ◌*◌, ◌/◌, ◌^◌, ◌<◌, ◌≤◌, length, take};
 ghost use Rattle.std.proofs.Common.{rules};
-ghost use Rattle.model.specs.Wire.{field};
+ghost use Rattle.model.specs.Wire.{field, tags_in_lem};
 
 use crate::number::value;
 
@@ -85,4 +85,15 @@ pub fn number_at<T: Number>(bytes: &[u8], at: usize) -> T
     ensures { T.num result ≡ field T.WIDTH at bytes.now }
 {
     T::narrow(value(&bytes[at..at + T::WIDTH]))
+}
+
+// Reads numbers of four bytes, one behind the other, into the front; what stands behind them doesn't count.
+pub fn fill(out: &mut [u32], bytes: &[u8])
+    requires { length bytes.now / 4 ≤ length out.old }
+    ensures numbers { take (length bytes.now / 4) out.new ≡ tags_in_lem (length bytes.now / 4) bytes.now }
+    ensures long { length out.new ≡ length out.old }
+{
+    for (i, piece) in bytes.chunks_exact(4).enumerate() {
+        out[i] = number_at(piece, 0);
+    }
 }

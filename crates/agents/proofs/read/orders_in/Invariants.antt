@@ -4,5 +4,5 @@ use Rattle.agents.proofs.Orders.{Reading}
 use Rattle.agents.proofs.read.orders_in.Given as goal
 
 -- the orders so far
-abbrev pub invariant-loop-i : goal.invariant-loop-i
-invariant-loop-i l = Reading l.count l.bytes l.i l.at (orders_of (vec_items l.orders))
+abbrev pub invariant-loop : goal.invariant-loop
+invariant-loop l = Reading l.count l.bytes l.counter l.rest (orders_of (vec_items l.orders))

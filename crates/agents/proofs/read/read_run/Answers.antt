@@ -1,12 +1,16 @@
-use Rattle.std.proofs.Common.{◌≡◌, ℕ, arith}
-use Rattle.agents.proofs.Orders.{runs_read, runs_bad, orders_few}
+use Rattle.std.proofs.Common.{◌≡◌, Err, rules, sym, subst}
+use Rattle.agents.specs.Answering.{HeardAs}
+use Rattle.model.specs.Answers.{read_runs}
+use Rattle.agents.proofs.Orders.{runs_read, runs_unread, orders_few}
 use Rattle.agents.proofs.read.read_run.Goals as goal
 
-pub returns-in-Whole : goal.returns-in-Whole
-returns-in-Whole c = let r = c.in-Whole.ensures in runs_read c.args.rest.now c.if-rest-lt20.false _ _ _ _ _ c.number_at-in-Whole.ensures c.number_at-in-Whole-2.ensures c.number_at-in-Whole-3.ensures c.number_at.ensures r.fits r.value
+pub returns-in_err-orders : goal.returns-in_err-orders
+returns-in_err-orders c =
+    let q : c.from_residual.result ≡ Err c.in_err-orders.field-0.0 = grind rules in
+    subst (HeardAs (read_runs c.args.rest.now)) (sym q) (runs_unread c.args.rest.now c.if-rest-lt20.false _ _ c.number_at.ensures c.in_err-orders.ensures)
 
-pub returns-in-Garbled : goal.returns-in-Garbled
-returns-in-Garbled c = λ k l n os e. let g = runs_bad c.args.rest.now c.if-rest-lt20.false _ c.number_at.ensures c.in-Garbled.ensures in let z : ◌≡◌ {A = ℕ} 0 1 = cc in omega arith
+pub returns : goal.returns
+returns c = let r = c.in_ok-orders.ensures in runs_read c.args.rest.now c.if-rest-lt20.false _ _ _ _ _ c.number_at-2.ensures c.number_at-3.ensures c.number_at-4.ensures c.number_at.ensures r.fits r.value
 
 pub invariant_of-result : goal.invariant_of-result
-invariant_of-result c = record { few = orders_few _ _ _ _ c.in-Whole.ensures.value c.in-Whole.orders.ok.0 c.number_at.type_inv }
+invariant_of-result c = record { few = orders_few _ _ _ _ c.in_ok-orders.ensures.value c.in_ok-orders.orders.ok.0 c.number_at.type_inv }

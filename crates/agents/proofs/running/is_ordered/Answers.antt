@@ -1,20 +1,12 @@
-use Rattle.std.proofs.Common.{sym, ◌∙◌}
-use Rattle.std.proofs.lemmas.Bool.{eq-eqb, ne_eqb}
-use Rattle.model.specs.Lists.{some}
+use Rattle.std.proofs.Common.{eqb, rules, tests, ◌∙◌}
+use Rattle.std.proofs.lemmas.Iterator.{YieldsList-from_slice}
+use Rattle.std.proofs.lemmas.Iterator.Search.{any_from_yields_List}
 use Rattle.model.specs.World.{is_order}
 use Rattle.agents.specs.Memory.{order_of}
-use Rattle.agents.proofs.Lists.{at_item, look_more, look_here, look_none, some_hit, some_skip, some_none}
+use Rattle.agents.specs.declared.order.Order.{Order}
+use Rattle.agents.proofs.Chains.{some_as}
 use Rattle.agents.proofs.running.is_ordered.Goals as goal
 
-pub returns-then-order-task : goal.returns-then-order-task
-returns-then-order-task c =
-    sym (look_here order_of (some (is_order c.args.task.0)) c.args.orders.now c.loop-order.order-index c.loop-order.invariant c.order-item.result _ (at_item _ _ _ c.loop-order-test.true c.order-item.is)
-    (some_hit _ _ _ (eq-eqb _ _ (sym c.if-order-task.true))))
-
-pub loop-order-preserved : goal.loop-order-preserved
-loop-order-preserved c =
-    look_more order_of (some (is_order c.args.task.0)) c.args.orders.now c.loop-order.order-index c.loop-order.invariant c.order-item.result (at_item _ _ _ c.loop-order-test.true c.order-item.is)
-    (some_skip _ _ _ (ne_eqb _ _ (λ e. c.if-order-task.false (sym e))))
-
 pub returns : goal.returns
-returns c = sym (look_none order_of (some (is_order c.args.task.0)) c.args.orders.now c.loop-order.order-index c.loop-order.invariant c.loop-order-test.false ∙ some_none _)
+returns c =
+    any_from_yields_List (λ (o : Order). eqb c.args.task.0 o.task.0) _ _ _ c.any.ensures.ran (YieldsList-from_slice _ c.iter.ensures.rest) (λ x b q k. search (rules, tests)) ∙ some_as order_of (is_order c.args.task.0) c.args.orders.now

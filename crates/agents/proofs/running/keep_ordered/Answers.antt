@@ -1,14 +1,17 @@
-use Rattle.std.proofs.Common.{false, [], map, sym, ap, ◌∙◌}
-use Rattle.agents.specs.Memory.{orders_of, seen_of}
-use Rattle.agents.specs.Moves.{kept}
-use Rattle.agents.proofs.Lists.{gather_more, gather_all, keep_none, keep_hom}
+use Rattle.std.proofs.Common.{rules, tests, ap, ◌∙◌}
+use Rattle.std.specs.Iterator.Adapters.{filter_source, filter_callee}
+use Rattle.std.specs.Slice.Iter.{iter_rest}
+use Rattle.std.proofs.lemmas.Iterator.{YieldsList-from_slice, items_from_collect}
+use Rattle.std.proofs.lemmas.Iterator.Consumers.{YieldsList-from_copied, YieldsList-from_filter}
+use Rattle.model.specs.Lists.{some}
+use Rattle.model.specs.World.{is_order}
+use Rattle.agents.specs.Memory.{orders_of}
+use Rattle.agents.specs.declared.order.Seen.{Seen}
+use Rattle.agents.proofs.Chains.{kept_from}
 use Rattle.agents.proofs.running.keep_ordered.Goals as goal
 
-pub loop-seen-init : goal.loop-seen-init
-loop-seen-init c = ap (map seen_of) c.new-left.ensures.items ∙ sym (keep_none _)
-
-pub loop-seen-preserved : goal.loop-seen-preserved
-loop-seen-preserved c = gather_more seen_of (kept (orders_of c.args.orders.now)) [] c.args.seens.now (keep_hom _) c.loop-seen.seen-index (record { task = record { 0 = 0 }; ready = false }) _ _ c.loop-seen-test.true c.loop-seen.invariant c.in_ok-keep_one.ensures
-
 pub returns : goal.returns
-returns c = gather_all seen_of (kept (orders_of c.args.orders.now)) [] c.args.seens.now c.loop-seen.seen-index _ c.loop-seen-test.false c.loop-seen.invariant
+returns c =
+    let source = ap (λ s. iter_rest (filter_source s)) c.copied.ensures.source ∙ ap iter_rest c.filter.ensures.source ∙ c.iter.ensures.rest in
+    let callee = ap filter_callee c.copied.ensures.source ∙ c.filter.ensures.closure in
+    kept_from _ _ _ (items_from_collect _ c.collect.ensures.ran (YieldsList-from_copied (YieldsList-from_filter _ (λ (x : Seen). some (is_order x.task.0) (orders_of c.args.orders.now)) (YieldsList-from_slice _ source) callee (λ x b q k. search (rules, tests)))))

@@ -1,20 +1,16 @@
-use Rattle.std.proofs.Common.{sym, ◌∙◌}
-use Rattle.std.proofs.lemmas.Bool.{eq-eqb, ne_eqb}
+use Rattle.std.proofs.Common.{◌≡◌, eqb, rules, tests, sym, ◌∙◌, subst}
+use Rattle.std.specs.List as list
+use Rattle.std.proofs.lemmas.Iterator.{YieldsList-from_slice}
+use Rattle.std.proofs.lemmas.Iterator.Search.{find_from_yields_List}
 use Rattle.model.specs.Lists.{find}
 use Rattle.model.specs.World.{is_order}
-use Rattle.agents.specs.Memory.{order_of}
-use Rattle.agents.proofs.Lists.{at_item, look_more, look_here, look_none, find_hit, find_skip, find_none}
+use Rattle.agents.specs.Memory.{orders_of}
+use Rattle.agents.specs.Moves.{Found}
+use Rattle.agents.specs.declared.order.Order.{Order}
+use Rattle.agents.proofs.Chains.{found_as}
 use Rattle.agents.proofs.running.order_for.Goals as goal
 
-pub returns-then-order-task : goal.returns-then-order-task
-returns-then-order-task c =
-    (look_here order_of (find (is_order c.args.task.0)) c.args.orders.now c.loop-order.order-index c.loop-order.invariant c.order-item.result _ (at_item _ _ _ c.loop-order-test.true c.order-item.is)
-    (find_hit _ _ _ (eq-eqb _ _ (sym c.if-order-task.true))))
-
-pub loop-order-preserved : goal.loop-order-preserved
-loop-order-preserved c =
-    look_more order_of (find (is_order c.args.task.0)) c.args.orders.now c.loop-order.order-index c.loop-order.invariant c.order-item.result (at_item _ _ _ c.loop-order-test.true c.order-item.is)
-    (find_skip _ _ _ (ne_eqb _ _ (λ e. c.if-order-task.false (sym e))))
-
 pub returns : goal.returns
-returns c = (look_none order_of (find (is_order c.args.task.0)) c.args.orders.now c.loop-order.order-index c.loop-order.invariant c.loop-order-test.false ∙ find_none _)
+returns c =
+    let h : c.copied.result ≡ list.find (λ (o : Order). eqb c.args.task.0 o.task.0) c.args.orders.now = c.copied.ensures ∙ find_from_yields_List (λ (o : Order). eqb c.args.task.0 o.task.0) _ _ _ c.find.ensures.ran (YieldsList-from_slice _ c.iter.ensures.rest) (λ x b q k. search (rules, tests)) in
+    record { first = h; found = subst (Found (find (is_order c.args.task.0) (orders_of c.args.orders.now))) (sym h) (found_as c.args.task.0 c.args.orders.now) }

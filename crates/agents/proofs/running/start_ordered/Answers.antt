@@ -1,11 +1,8 @@
-use Rattle.agents.proofs.Moving.{started_back, started_all, started_at_end}
+use Rattle.agents.proofs.Moving.{started_step, started_done}
 use Rattle.agents.proofs.running.start_ordered.Goals as goal
 
-pub loop-i-init : goal.loop-i-init
-loop-i-init c = started_at_end c.args.orders.now _
-
-pub loop-i-preserved : goal.loop-i-preserved
-loop-i-preserved c = started_back c.args.orders.now _ c.loop-i.i c.index-orders-i.result _ _ c.loop-i-test.true c.loop-i.auto.i c.loop-i.invariant c.in_ok-start_one.ensures
+pub loop-order-preserved : goal.loop-order-preserved
+loop-order-preserved c = started_step _ _ c.in-Some.order.now _ _ _ c.in-Some.ensures.steps c.in_ok-start_one.ensures c.loop-order.invariant
 
 pub returns : goal.returns
-returns c = started_all c.args.orders.now _ _ c.loop-i.i c.loop-i-test.false c.loop-i.invariant
+returns c = started_done _ _ _ c.in-None.ensures.steps.0 c.loop-order.invariant

@@ -1,8 +1,10 @@
-use Rattle.std.proofs.Common.{◌≡◌, drop, vec_items}
+use Rattle.std.proofs.Common.{◌≡◌, vec_items}
+use Rattle.std.specs.Slice.Iter.{iter_rest}
+use Rattle.std.specs.Iterator.Adapters.{rev_source}
 use Rattle.agents.specs.Memory.{orders_of, seens_of}
 use Rattle.agents.specs.Moves.{started}
 use Rattle.agents.proofs.running.start_ordered.Given as goal
 
--- the orders behind the place are started
-abbrev pub invariant-loop-i : goal.invariant-loop-i
-invariant-loop-i l = seens_of (vec_items l.seens) ≡ started (orders_of (drop l.i l.orders)) (seens_of (vec_items l.initial.seens))
+-- the orders that are left, started on what runs by now, come to all of them
+abbrev pub invariant-loop-order : goal.invariant-loop-order
+invariant-loop-order l = started (orders_of (iter_rest (rev_source l.order-iterator))) (seens_of (vec_items l.seens)) ≡ started (orders_of l.orders) (seens_of (vec_items l.initial.seens))

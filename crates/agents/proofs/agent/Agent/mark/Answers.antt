@@ -3,4 +3,4 @@ use Rattle.agents.proofs.Around.{marked_at}
 use Rattle.agents.proofs.agent.Agent.mark.Goals as goal
 
 pub returns : goal.returns
-returns c = record { agent = (marked_at _ c.in-Some.i _ _ c.as_slice.ensures.value c.in-Some.ensures _ _ refl refl, refl); machine = refl }
+returns c = let p = rw c.in_ok-i.ensures.ok_part at c.place.ensures in record { agent = (marked_at _ c.in_ok-i.i _ _ c.as_slice.ensures.value p _ _ refl refl, refl); machine = refl }

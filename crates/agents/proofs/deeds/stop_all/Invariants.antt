@@ -1,8 +1,0 @@
-use Rattle.std.proofs.Common.{◌≡◌, ◌++◌, take, vec_items}
-use Rattle.agents.specs.Memory.{deeds_of, seens_of}
-use Rattle.agents.specs.Moves.{stops_for}
-use Rattle.agents.proofs.deeds.stop_all.Given as goal
-
--- what the front calls for
-abbrev pub invariant-loop-seen : goal.invariant-loop-seen
-invariant-loop-seen l = deeds_of (vec_items l.deeds) ≡ deeds_of (vec_items l.initial.deeds) ++ stops_for (seens_of l.after) (seens_of (take l.seen-index l.before))
