@@ -1,4 +1,5 @@
 // Calls on a mind: each that is built, and any by its kind.
+// The functions over two slices stay beside the methods: a struct that lends both needs clauses on its borrows in each function, so it is no plainer.
 ghost use Rattle.std.specs.Prelude.{◌≡◌, ℕ, List};
 ghost use Rattle.model.specs.State.{blank};
 ghost use Rattle.model.specs.Calls as m;

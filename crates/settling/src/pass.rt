@@ -1,4 +1,5 @@
 // The pass.
+// The two slices stay parameters with their clauses: a struct that lends both needs clauses on its borrows in each function, so it is no plainer.
 ghost use Rattle.std.specs.Prelude.{◌≡◌, ℕ, ◌+◌, ◌*◌, ◌<◌, ◌≤◌, length};
 ghost use Rattle.model.specs.Promise.{Good};
 ghost use Rattle.model.specs.Settle.{settle as settled};
