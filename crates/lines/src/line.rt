@@ -4,7 +4,7 @@ ghost use Rattle.model.specs.Lines.{call_in, kind_in, tag_in};
 ghost use Rattle.lines.specs.Held.{Holds, call_room};
 ghost use Rattle.lines.specs.Overlong.{AreBytes, LongerAs};
 
-use octets::number::value;
+use octets::field::number_at;
 
 // The longest line that may be done: a frame with a report of 2,048 tasks.
 pub const ROOM: usize = 18_461;
@@ -60,14 +60,14 @@ impl Line {
         if self.count < 8 {
             return 0;
         }
-        value(&self.bytes[4..8]) as u32
+        number_at(&self.bytes, 4)
     }
 
     // The call in the frame, as far as it is held; nothing where the frame's length is not that of the rest.
     pub fn call(&self) -> &[u8]
         ensures { (line : List ℕ) → Holds self.now.bytes self.now.count line → result.now ≡ take call_room (call_in line) }
     {
-        if self.count < 8 || value(&self.bytes[0..4]) + 4 != self.count {
+        if self.count < 8 || u64::from(number_at::<u32>(&self.bytes, 0)) + 4 != self.count {
             return &self.bytes[0..0];
         }
         &self.bytes[8..self.count.min(ROOM as u64) as usize]

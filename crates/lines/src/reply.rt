@@ -45,6 +45,7 @@ impl Reply {
 }
 
 // All that is to run on a machine.
+// (`home` and `live` stay two slices of words, here and below: a rule of the project.)
 fn put_run(out: &mut [u8], at: usize, home: &[u64], live: &[u64], run: RunOn) -> usize
     requires words { home_words_lem ≤ length home.now }
     requires flags { live_words ≤ length live.now }

@@ -6,4 +6,4 @@ pub returns-then-self-lt8 : goal.returns-then-self-lt8
 returns-then-self-lt8 c = λ line h. tag_short _ _ line h c.if-self-lt8.true
 
 pub returns : goal.returns
-returns c = λ line h. c.value.ensures.value ∙ tag_held _ _ line h c.if-self-lt8.false
+returns c = λ line h. c.number_at.ensures ∙ tag_held _ _ line h c.if-self-lt8.false
