@@ -11,3 +11,4 @@ pub mod Wanted
 pub mod Versions
 pub mod Setting
 pub mod Handled
+pub mod Minds

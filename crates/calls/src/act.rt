@@ -5,9 +5,8 @@ ghost use Rattle.model.specs.State.{blank};
 ghost use Rattle.model.specs.Calls as m;
 ghost use Rattle.model.specs.Calls.{Tick};
 ghost use Rattle.jobs.specs.Tables.{state_of};
-ghost use Rattle.calls.specs.Acted.{Acted};
-ghost use Rattle.calls.specs.Handled.{Handled};
 ghost use Rattle.calls.specs.Meaning.{call_of};
+ghost use Rattle.calls.specs.Minds.{MindActed, MindHandled};
 ghost use Rattle.calls.specs.declared.call.Call.TheVariants.{Add, Report, Set};
 
 use crate::answer::{Answer, Refusal};
@@ -30,28 +29,28 @@ impl Mind {
 
     // A report.
     pub fn report<'a>(&mut self, report: Reported) -> Answer<'a>
-        ensures { Acted (call_of (Report report.entry)) self.old.home self.old.live self.old.time result self.new.home self.new.live self.new.time }
+        ensures { MindActed (call_of (Report report.entry)) self.old result self.new }
     {
         report::report(&mut self.home, &mut self.live, self.time, report)
     }
 
     // A job is set.
     pub fn set<'a>(&mut self, wanted: Wanted) -> Answer<'a>
-        ensures { Acted (call_of (Set wanted.entry)) self.old.home self.old.live self.old.time result self.new.home self.new.live self.new.time }
+        ensures { MindActed (call_of (Set wanted.entry)) self.old result self.new }
     {
         setting::set(&mut self.home, &mut self.live, self.time, wanted)
     }
 
     // A machine is added.
     pub fn add<'a>(&mut self, added: Added) -> Answer<'a>
-        ensures { Acted (call_of (Add added.entry)) self.old.home self.old.live self.old.time result self.new.home self.new.live self.new.time }
+        ensures { MindActed (call_of (Add added.entry)) self.old result self.new }
     {
         add::add(&mut self.home, &mut self.live, self.time, added)
     }
 
     // The time.
     pub fn tell<'a>(&mut self, ms: u64) -> Answer<'a>
-        ensures { Acted (Tick ms) self.old.home self.old.live self.old.time result self.new.home self.new.live self.new.time }
+        ensures { MindActed (Tick ms) self.old result self.new }
     {
         let told = clock::tell(&mut self.home, &mut self.live, self.time, ms);
         if let Ok(time) = told {
@@ -62,14 +61,14 @@ impl Mind {
 
     // Showing a job's tasks changes nothing.
     pub fn show<'a>(&self, name: &'a [u8]) -> Answer<'a>
-        ensures { Acted (m.Show name.now) self.now.home self.now.live self.now.time result self.now.home self.now.live self.now.time }
+        ensures { MindActed (m.Show name.now) self.now result self.now }
     {
         Answer::Lines(name)
     }
 
     // Any call, by its kind.
     pub fn act<'a>(&mut self, call: Call<'a>) -> Answer<'a>
-        ensures { Handled (call_of call.entry) self.old.home self.old.live self.old.time result self.new.home self.new.live self.new.time }
+        ensures { MindHandled (call_of call.entry) self.old result self.new }
     {
         match call {
             Call::Set(wanted) => self.set(wanted),
