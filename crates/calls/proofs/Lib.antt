@@ -10,7 +10,6 @@ pub mod Noted
 pub mod Outcomes
 pub mod Timed
 pub mod Keeping
-pub mod TagBytes
 pub mod Naming
 pub mod Ranges
 pub mod Alike

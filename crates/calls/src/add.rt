@@ -10,10 +10,10 @@ ghost use Rattle.calls.specs.declared.call.Call.TheVariants.{Add};
 
 use crate::answer::{Answer, Refusal};
 use crate::call::Added;
-use crate::tags::put_tags;
 use jobs::finding::find_machine;
 use jobs::machine::Machine;
 use jobs::machine_rows::add_machine;
+use octets::field::fill;
 use settling::pass::settle;
 
 const MOST: u32 = 1_000_000_000;
@@ -34,7 +34,7 @@ fn machine(added: Added) -> Machine
     ensures tags { take result.count result.tags ≡ tags_of added.entry.tags.now }
 {
     let mut tags = [0; 16];
-    put_tags(&mut tags, added.tags);
+    fill(&mut tags, added.tags);
     Machine {
         num: added.machine,
         cpu: added.cpu,

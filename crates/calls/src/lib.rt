@@ -15,6 +15,5 @@ pub mod seen;
 pub mod setting;
 pub mod sound;
 pub mod sweeps;
-pub mod tags;
 pub mod versions;
 pub mod wanted;

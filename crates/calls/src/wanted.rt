@@ -5,17 +5,17 @@ ghost use Rattle.calls.specs.Wanted.{SpecAs, JobAs};
 
 use crate::call::{Likeness, Wanted};
 use crate::names::name_of;
-use crate::tags::put_tags;
 use jobs::ids::Version;
 use jobs::job::Job;
 use jobs::spec::Spec;
+use octets::field::fill;
 
 fn spec_tags(bytes: &[u8]) -> [u32; 8]
     requires { length bytes.now / 4 ≤ 8 }
     ensures { take (length bytes.now / 4) result ≡ tags_of bytes.now }
 {
     let mut tags = [0; 8];
-    put_tags(&mut tags, bytes);
+    fill(&mut tags, bytes);
     tags
 }
 
