@@ -5,21 +5,20 @@ ghost use Rattle.device.specs.Opens.{IsFair};
 use crate::bytes::decode;
 use crate::filed::Filed;
 use crate::kept::WORDS;
+use std::alloc::AllocError;
 use std::fs::{File, OpenOptions};
 use std::io::{ErrorKind, Read};
 use std::{fmt, fs, io};
 
-// Where the file is, where it is made, and the directory of both.
+// Where the file is, and its directory.
 #[derive(Clone, Copy)]
 pub struct Paths<'a> {
     pub file: &'a str,
-    pub aside: &'a str,
     pub dir: &'a str,
 }
 
 const HERE: Paths<'static> = Paths {
     file: "kept",
-    aside: "kept.new",
     dir: ".",
 };
 
@@ -61,16 +60,20 @@ impl fmt::Display for OpenError {
 
 // Opens the file and reads its words into the mirror. A file of another length is refused; where there is none it is made, all 0.
 pub fn open<'a>(rt: &HostRuntime, mirror: &'a mut [u64; WORDS]) -> Result<Filed<'a>, OpenError> {
-    let mut file = open_at(rt, HERE)?;
+    let mut file = open_at(rt, HERE, Ok("kept.new"))?;
     read_all(&mut file, mirror).map_err(OpenError::Read)?;
     Ok(Filed::of(file, mirror))
 }
 
-// Opens the file, or makes it, all 0. One of another length is refused, and left as it is.
-pub fn open_at(rt: &HostRuntime, paths: Paths<'_>) -> Result<File, OpenError>
+// Opens the file, or makes it, all 0: aside, if there was memory for that path. One of another length is refused, and left as it is.
+pub fn open_at(
+    rt: &HostRuntime,
+    paths: Paths<'_>,
+    aside: Result<&str, AllocError>,
+) -> Result<File, OpenError>
     ensures { IfErr result IsFair }
 {
-    let file = open_or_make(rt, paths)?;
+    let file = open_or_make(rt, paths, aside)?;
     let long = file.metadata().map_err(OpenError::Open)?.len();
     if long != BYTES {
         return Err(OpenError::Length(long));
@@ -78,12 +81,16 @@ pub fn open_at(rt: &HostRuntime, paths: Paths<'_>) -> Result<File, OpenError>
     Ok(file)
 }
 
-fn open_or_make(rt: &HostRuntime, paths: Paths<'_>) -> Result<File, OpenError>
+fn open_or_make(
+    rt: &HostRuntime,
+    paths: Paths<'_>,
+    aside: Result<&str, AllocError>,
+) -> Result<File, OpenError>
     ensures { IfErr result IsFair }
 {
     match open_file(rt, paths.file) {
         Err(e) if e.kind() == ErrorKind::NotFound => {
-            make(rt, paths).map_err(OpenError::Make)?;
+            make(rt, paths, aside).map_err(OpenError::Make)?;
             open_file(rt, paths.file).map_err(OpenError::Open)
         }
         opened => opened.map_err(OpenError::Open),
@@ -97,12 +104,13 @@ fn open_file(rt: &HostRuntime, path: &str) -> io::Result<File> {
 }
 
 // Made aside and moved into place as a whole, so that there is never a part of it.
-fn make(rt: &HostRuntime, paths: Paths<'_>) -> io::Result<()> {
-    let file = File::create(rt, paths.aside)?;
+fn make(rt: &HostRuntime, paths: Paths<'_>, aside: Result<&str, AllocError>) -> io::Result<()> {
+    let aside = aside?;
+    let file = File::create(rt, aside)?;
     file.set_len(BYTES)?;
     file.sync_all()?;
     drop(file);
-    fs::rename(rt, paths.aside, paths.file)?;
+    fs::rename(rt, aside, paths.file)?;
     File::open(rt, paths.dir)?.sync_all()
 }
 

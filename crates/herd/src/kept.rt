@@ -61,11 +61,14 @@ impl fmt::Display for Trouble {
 // Opens the file in this directory. One of another length is refused and left as it is.
 pub fn open(rt: &HostRuntime, dir: &str) -> Result<File, Trouble> {
     let file = format!(in rt.alloc(); "{dir}/kept")?;
-    let aside = format!(in rt.alloc(); "{dir}/kept.new")?;
+    let aside = format!(in rt.alloc(); "{dir}/kept.new");
+    let path = match &aside {
+        Ok(aside) => Ok(aside.as_str()),
+        Err(e) => Err(*e),
+    };
     let paths = Paths {
         file: file.as_str(),
-        aside: aside.as_str(),
         dir,
     };
-    Ok(open_at(rt, paths)?)
+    Ok(open_at(rt, paths, path)?)
 }
