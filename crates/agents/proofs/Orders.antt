@@ -1,15 +1,15 @@
 -- Orders in bytes, one by one.
 -- Assumes nothing.
-use Rattle.std.proofs.Common.{◌≡◌, ℕ, zero, suc, ◌+◌, ◌-◌, ◌*◌, ◌/◌, ◌<◌, ◌≤◌, Bool, true, false, ◌&&◌, eqb, List, [], ◌∷◌, ◌++◌, map, length, get_or, take, drop, Err, sym, refl, ap, ◌∙◌, append_assoc, append-nil, arith, length-drop}
+use Rattle.std.proofs.Common.{◌≡◌, ℕ, zero, suc, ◌+◌, ◌-◌, ◌*◌, ◌/◌, ◌<◌, ◌≤◌, Bool, true, false, ◌&&◌, eqb, List, [], ◌∷◌, ◌++◌, map, length, get_or, take, drop, Err, sym, refl, ap, ◌∙◌, append_assoc, append-nil, arith, length-drop, cond}
 use Rattle.std.proofs.lemmas.List.{take_rest, length-map}
-use Rattle.std.proofs.lemmas.Bool.{eq-eqb, le-leb, le-ltb}
+use Rattle.std.proofs.lemmas.Bool.{ne_eqb, eq-eqb, le-leb, le-ltb, true≢false}
 use Rattle.octets.proofs.Numbers.{length_take_under}
 use Rattle.octets.proofs.Filling.{tags_within}
-use Rattle.model.specs.Wire.{Bytes, garbled, meant, byte_at, field, tags_in_lem, spec_in_lem, Runs}
+use Rattle.model.specs.Wire.{Bytes, garbled, meant, byte_at, field, tags_in_lem, spec_in_lem, Runs, Read, Answer, Done, Shown, Refused as Turned}
 use Rattle.model.specs.Lines.{call_in}
 use Rattle.model.specs.State as s
 use Rattle.model.specs.Calls as m
-use Rattle.model.specs.Answers.{tags_at, order_width, order_in, is_order_in, orders_in_lem, are_orders_in, read_runs}
+use Rattle.model.specs.Answers.{tags_at, order_width, order_in, is_order_in, orders_in_lem, are_orders_in, read_runs, read_answer_lem, read_answer_kind, is_runs, phases_in, lines_in}
 use Rattle.agents.specs.Memory.{order_of}
 use Rattle.agents.specs.Answering.{OrderRead, OrdersAs, HeardAs}
 use Rattle.agents.specs.declared.agent.Passed.{Passed}
@@ -102,6 +102,29 @@ runs_unread bs l c NoAnswer s h = λ k e n os p. let g = runs_bad bs l c s h in 
 runs_unread bs l c NoMemory s h = tt
 runs_unread bs l c (Refused k) s h = absurd h
 runs_unread bs l c NotLast s h = absurd h
+
+-- another first byte than that of an answer to a report
+is_run : Read Answer → Bool
+is_run garbled = false
+is_run (meant a) = is_runs a
+
+other_kind_at : (x : ℕ) (bs : Bytes) → (x ≡ 2 → ⊥) → is_run (read_answer_kind x bs) ≡ false
+unfolding is_run
+other_kind_at x bs f = rw (ne_eqb x 2 f) (pick (eqb x 0) (eqb (length bs) 1) (eqb x 1) (eqb (length bs) 0) (eqb x 3) (eqb (length bs) (2 + 15 * field 2 0 bs) && phases_in (field 2 0 bs) (drop 2 bs)))
+  where
+    pick : (a b c d e g : Bool) → is_run (cond a (cond b (meant (Turned (byte_at 0 bs))) garbled) (cond c (cond d (meant Done) garbled) (cond e (cond g (meant (Shown (lines_in (field 2 0 bs) (drop 2 bs)))) garbled) garbled))) ≡ false
+    pick true true c d e g = refl
+    pick true false c d e g = refl
+    pick false b true true e g = refl
+    pick false b true false e g = refl
+    pick false b false d true true = refl
+    pick false b false d true false = refl
+    pick false b false d false g = refl
+
+pub other_kind : (bs : Bytes) → (0 < length bs → get_or bs 0 0 ≡ 2 → ⊥) → (k l n : ℕ) (os : List m.Order) → read_answer_lem bs ≡ meant (Runs k l n os) → ⊥
+unfolding is_run
+other_kind [] f k l n os e = let z : ◌≡◌ {A = ℕ} 0 1 = cc in omega arith
+other_kind (x ∷ bs) f k l n os e = true≢false (sym (ap is_run e) ∙ other_kind_at x bs (f (omega arith)))
 
 -- a frame
 pub frame_good : (line : Bytes) → 8 ≤ length line → field 4 0 line + 4 ≡ length line → take (length line - 8) (drop 8 line) ≡ call_in line

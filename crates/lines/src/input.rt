@@ -1,4 +1,5 @@
-// What comes in, piece by piece, to its end.
+// What comes in, piece by piece, to its end. Nothing says that there is an end, and each function must have one: so tries are counted,
+// and the last of them is an error.
 ghost use Rattle.std.specs.Prelude.{◌≡◌, ◌<◌, Ok, length, IfOk, OnErr, OnOk};
 ghost use Rattle.std.specs.Fn.{CalledAt};
 ghost use Rattle.std.specs.Io.KnownBytes.{Consumes, IsAtEnd, Keeps};

@@ -16,8 +16,8 @@ returns c =
     deeds_from _ _ _ _
     (items_from_collect _ c.collect.ensures.ran
     (YieldsList-from_chain
-    (YieldsList-from_map _ stopped (YieldsList-from_filter _ (idle (seens_of c.args.after.now)) (YieldsList-from_slice _ source) test (λ x b q k. search (rules, tests))) (ap map_callee c.chain.ensures.first ∙ c.map-stops.ensures.closure)
+    (YieldsList-from_map _ stopped (YieldsList-from_filter _ (idle (seens_of c.args.after.now)) (YieldsList-from_slice c.args.before.now source) test (λ x b q k. search (rules, tests))) (ap map_callee c.chain.ensures.first ∙ c.map-stops.ensures.closure)
     (λ x r q k. search rules))
-    (YieldsList-from_filter_map _ (restart c.args.orders.now) (YieldsList-from_filter _ (idle (seens_of c.args.before.now)) (YieldsList-from_slice _ source2) test2 (λ x b q k. search (rules, tests)))
+    (YieldsList-from_filter_map _ (restart c.args.orders.now) (YieldsList-from_filter _ (idle (seens_of c.args.before.now)) (YieldsList-from_slice c.args.after.now source2) test2 (λ x b q k. search (rules, tests)))
     (ap filter_map_callee c.chain.ensures.second ∙ c.filter_map-starts.ensures.closure) (λ x r q k. search rules))
     c.chain.ensures.first_done c.chain.ensures.second_done))

@@ -14,4 +14,4 @@ pub returns : goal.returns
 returns c =
     let source = ap (λ s. iter_rest (filter_source s)) c.copied.ensures.source ∙ ap iter_rest c.filter.ensures.source ∙ c.iter.ensures.rest in
     let callee = ap filter_callee c.copied.ensures.source ∙ c.filter.ensures.closure in
-    kept_from _ _ _ (items_from_collect _ c.collect.ensures.ran (YieldsList-from_copied (YieldsList-from_filter _ (λ (x : Seen). some (is_order x.task.0) (orders_of c.args.orders.now)) (YieldsList-from_slice _ source) callee (λ x b q k. search (rules, tests)))))
+    kept_from _ _ _ (items_from_collect _ c.collect.ensures.ran (YieldsList-from_copied (YieldsList-from_filter _ (λ (x : Seen). some (is_order x.task.0) (orders_of c.args.orders.now)) (YieldsList-from_slice c.args.seens.now source) callee (λ x b q k. search (rules, tests)))))
