@@ -7,7 +7,7 @@ use jobs::full;
 use jobs::ids::{Life, MachineId, ReportNumber};
 
 // Why a call is turned away.
-#[derive(Clone, Copy)]
+#[derive(Clone, Copy, Debug, PartialEq, Eq)]
 pub enum Refusal {
     // Out of range, or no call at all.
     Malformed = 1,

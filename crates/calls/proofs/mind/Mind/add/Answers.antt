@@ -1,10 +1,9 @@
-use Rattle.std.proofs.Common.{rules}
 use Rattle.calls.proofs.Keeping.{acted_sound}
 use Rattle.calls.proofs.Soundness.{sound_fine}
 use Rattle.calls.proofs.mind.Mind.add.Goals as goal
 
-pub add-requires : goal.add-requires
-add-requires c = record { words = search rules; flags = search rules; fine = sound_fine c.args.self.now.home c.args.self.now.live c.args.self.now.time c.args.self.now.sound }
+pub add-requires-clause-fine : goal.add-requires-clause-fine
+add-requires-clause-fine c = sound_fine c.args.self.now.home c.args.self.now.live c.args.self.now.time c.args.self.now.sound
 
 pub invariant_of-self : goal.invariant_of-self
 invariant_of-self c = record { sound = acted_sound _ _ _ _ _ _ _ _ c.add.ensures.acted c.args.self.now.sound }
