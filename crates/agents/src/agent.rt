@@ -49,6 +49,7 @@ impl fmt::Display for Unsent {
 #[derive(Clone, Copy, Debug, PartialEq, Eq)]
 pub enum Passed {
     NoAnswer,
+    // By its number, and not a `Refusal`: any byte may come.
     Refused(u8),
     // It answers another report than the last, or another machine's or life's.
     NotLast,

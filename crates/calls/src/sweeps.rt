@@ -42,6 +42,7 @@ pub fn hear(home: &mut [u64], live: &mut [u64], report: Reported)
     requires flags { live_words ≤ length live.old }
     ensures { TasksNow (heard_all report.entry.machine.0 report.entry.life.0 (seens_of report.entry.tasks.now) (tasks_of home.old live.old)) home.old live.old home.new live.new }
 {
+    // By number: a row is changed where it stands, so nothing can lend the rows meanwhile.
     for i in 0..TASKS.in_use(home) {
         hear_task(home, live, i, report);
     }
@@ -82,6 +83,7 @@ pub fn doubt(home: &[u64], live: &mut [u64], time: u64)
     requires flags { live_words ≤ length live.old }
     ensures { TasksNow (map (unsure time (machines_of home.now live.old)) (tasks_of home.now live.old)) home.now live.old home.now live.new }
 {
+    // By number: one number finds a row in `home` and its flag in `live`, lent as words by a rule of the project.
     for i in 0..TASKS.in_use(home) {
         doubt_task(home, live, i, time);
     }

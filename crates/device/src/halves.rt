@@ -90,6 +90,7 @@ pub fn commit<K: Kept>(words: &mut K, home: &[u64]) -> Result<(), Dark>
 }
 
 // Makes these the home words if they may have changed; if not, nothing is looked at.
+// (The words and whether they changed, and not an `Option` of the words: both are at hand, so an `Option` would be made to be taken apart.)
 pub fn keep<K: Kept>(words: &mut K, home: &[u64], changed: bool) -> Result<(), Dark>
     requires { 2 * length home.now < 262144 }
     ensures { Follows (keeping changed home.now) (K.word words.old) result (tt {0}) (K.word words.new) }

@@ -4,7 +4,7 @@ use std::alloc::AllocError;
 use std::fs::File;
 use std::{fmt, io};
 
-// Why the herd does not go on.
+// Why the herd does not go on. (The agent has its own: the texts, which programs fix, differ in all but three.)
 #[derive(Debug, Drop)]
 pub enum Trouble {
     Usage,

@@ -17,7 +17,7 @@ fn reply(rt: &HostRuntime, reader: &mut Reader) -> io::Result<()> {
     Ok(())
 }
 
-// One character more; whether a line has begun then.
+// One character more; whether a line has begun then. (It is the answer to a question, and no value stands beside it.)
 fn take(rt: &HostRuntime, reader: &mut Reader, c: u8) -> io::Result<bool> {
     if c == b'\n' {
         reply(rt, reader)?;

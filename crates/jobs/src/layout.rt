@@ -1,5 +1,9 @@
 // Where things stand in the words.
 //
+// `home` and `live` are lent as two slices of words, by a rule of the project, and each function asks how long they are. A struct that
+// lends both was tried: what its lender holds afterwards is known only by a clause on each borrow's name in each function, so it is no plainer.
+// Nor is a type for a row's number: each caller would make one of a number that its loop bounds already.
+//
 // home, 68,104 words: 0 the last task number given, 1 to 3 how many rows of jobs, machines and tasks are in use, 4 to 7 free;
 // then 256 rows of jobs (26 words), 256 of machines (24), 2,048 of tasks (27).
 //   job      0 version (0: a hole; a version 0 is written as 2^32)  1 to 13 spec  14 to 22 name  23 count  24 least  25 most

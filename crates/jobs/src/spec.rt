@@ -8,7 +8,7 @@ pub struct Spec {
     pub mem: u32,
     // No two tasks of the job on one machine.
     pub apart: bool,
-    // How many of the tags count.
+    // How many of the tags count. (A fixed array, and no heap: a rule of the project.)
     pub count: u8,
     pub tags: [u32; 8],
     ghost few: { count ≤ 8 },

@@ -21,7 +21,7 @@ fn refused(tag: u32, why: Refusal) -> [u8; 10]
     [0, 0, 0, 6, a, b, c, d, 0, why.number()]
 }
 
-// Why a call of this kind is turned away. No kind is built yet, so no time was ever told.
+// Why a call of this kind is turned away. No kind is built yet, so no time was ever told. Any byte may stand for a kind.
 fn reason(kind: u8) -> Refusal
     ensures { number_of result ≡ (if is_known kind then 12 else 10) }
 {

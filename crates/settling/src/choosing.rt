@@ -66,6 +66,7 @@ pub fn choose(
     ensures { Chosen (machine_at home.now live.now) (machine_rows_lem home.now) (tasks_of home.now live.now) result (bestOf (keep (takes time (task_in home.now live.now i) (tasks_of home.now live.now)) (machines_of home.now live.now)) (tasks_of home.now live.now)) }
 {
     let mut best = None;
+    // A labelled loop over machines and tags, left at the first that fails: a rule of the project.
     'machines: for r in 0..MACHINES.in_use(home) {
         let row = MACHINES.row(home, r);
         if row.is_hole() {

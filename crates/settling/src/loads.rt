@@ -65,6 +65,7 @@ pub fn weigh_all(home: &[u64], job: &Name, loads: &mut [Load])
     ensures { (live : List ℕ) → Loaded (name_of job.now) home.now (tasks_of home.now live) loads.new }
 {
     loads.fill(Load::default());
+    // A loop: `for_each` and `fold` would change what their closure holds, of which the check then knows nothing.
     for i in 0..TASKS.in_use(home) {
         if let Some(w) = weight(home, i, job) {
             add_to_all(home, w, loads);

@@ -56,6 +56,7 @@ pub fn place_all(home: &mut [u64], live: &mut [u64], loads: &mut [Load], time: u
     requires numbered { Numbered (state_of home.old live.old time) }
     ensures { Became (placedAll (state_of home.old live.old time)) home.old live.old home.new live.new time }
 {
+    // By number: a row is changed where it stands, so nothing can lend the rows meanwhile.
     for i in 0..TASKS.in_use(home) {
         place_row(home, live, i, loads, time);
     }

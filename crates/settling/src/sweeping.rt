@@ -31,6 +31,7 @@ pub fn end_orphans(home: &mut [u64])
     requires { home_words_lem ≤ length home.old }
     ensures { (live : List ℕ) → TasksNow (orphans_end (jobs_of home.old) (tasks_of home.old live)) home.old live home.new live }
 {
+    // By number, here and below: a row is changed where it stands, so nothing can lend the rows meanwhile.
     for i in 0..TASKS.in_use(home) {
         end_orphan(home, i);
     }
