@@ -18,7 +18,7 @@ pub fn set_open(home: &mut [u64], i: usize, open: bool)
     requires within { i < machine_rows_lem home.old }
     ensures { (live : List ℕ) → MachinesNow (machines_with home.old live i (map (opened «open») (machine_at home.old live i))) home.old live home.new live }
 {
-    home[MACHINE_BASE + i * MACHINE_WIDTH + 4] = open as u64;
+    home[MACHINE_BASE + i * MACHINE_WIDTH + 4] = u64::from(open);
 }
 
 // A report of the machine in row `i` was heard.

@@ -15,7 +15,7 @@ fn named(rest: &[u8]) -> Option<&[u8]>
     ensures { Named rest.now result }
 {
     match rest {
-        [len, name @ ..] if name.len() == *len as usize => Some(name),
+        [len, name @ ..] if name.len() == usize::from(*len) => Some(name),
         _ => None,
     }
 }
@@ -40,7 +40,7 @@ fn numbered(rest: &[u8]) -> Option<MachineId>
 fn read_add(rest: &[u8]) -> Option<Call<'_>>
     ensures { ReadAs (read_add_lem rest.now) result }
 {
-    if rest.len() < 11 || rest.len() - 11 != 4 * rest[10] as usize {
+    if rest.len() < 11 || rest.len() - 11 != 4 * usize::from(rest[10]) {
         return None;
     }
     Some(Call::Add(Added {
@@ -61,7 +61,7 @@ fn flags(tasks: &[u8]) -> bool
 fn read_report(rest: &[u8]) -> Option<Call<'_>>
     ensures { ReadAs (read_report_lem rest.now) result }
 {
-    if rest.len() < 20 || rest.len() - 20 != 9 * number_at::<u16>(rest, 18) as usize {
+    if rest.len() < 20 || rest.len() - 20 != 9 * usize::from(number_at::<u16>(rest, 18)) {
         return None;
     }
     let tasks = &rest[20..];
@@ -94,8 +94,8 @@ fn likeness(bytes: &[u8], tags: usize) -> Likeness<'_>
 fn read_set(rest: &[u8]) -> Option<Call<'_>>
     ensures { ReadAs (read_set_lem rest.now) result }
 {
-    let name = *rest.first()? as usize;
-    let tags = *rest.get(name + 13)? as usize;
+    let name = usize::from(*rest.first()?);
+    let tags = usize::from(*rest.get(name + 13)?);
     if rest.len() != name + 4 * tags + 21 || rest[name + 4 * tags + 14] > 1 {
         return None;
     }
