@@ -5,7 +5,7 @@ ghost use Rattle.jobs.specs.Rows.{at, Closed, Moved, Pushed, Shut, WordsPut};
 use crate::rows::Table;
 
 // Writes words.
-fn put_words(home: &mut [u64], start: usize, words: &[u64])
+pub fn put_words(home: &mut [u64], start: usize, words: &[u64])
     requires { start + length words.now ≤ length home.old }
     ensures { WordsPut start words.now home.old home.new }
 {
@@ -19,6 +19,26 @@ fn move_words(home: &mut [u64], from: usize, to: usize, n: usize)
     ensures { Moved from to n home.old home.new }
 {
     home.copy_within(from..from + n, to);
+}
+
+// Moves the rows that are no holes together, each with its flag, and says how many there are.
+pub fn close_rows(home: &mut [u64], flags: &mut [u64], base: usize, width: usize, n: usize) -> usize
+    requires wide { 0 < width }
+    requires words { base + n * width ≤ length home.old }
+    requires small { base + n * width ≤ 262144 }
+    requires flags { n ≤ length flags.old }
+    ensures { Closed base width n home.old flags.old home.new flags.new result }
+{
+    let mut to = 0;
+    // By index: rows move within the words that they are read from.
+    for i in 0..n {
+        if home[base + i * width] != 0 {
+            move_words(home, base + i * width, base + to * width, width);
+            flags[to] = flags[i];
+            to += 1;
+        }
+    }
+    to
 }
 
 impl<const BASE: usize, const WIDTH: usize, const MOST: usize, const COUNTED: usize> Table<
@@ -69,28 +89,8 @@ impl<const BASE: usize, const WIDTH: usize, const MOST: usize, const COUNTED: us
         requires flags { MOST ≤ length flags.old }
         ensures { Shut BASE WIDTH COUNTED (min (at home.old COUNTED) MOST) home.old flags.old home.new flags.new }
     {
-        let to = self.close_rows(home, flags);
+        let n = self.in_use(home);
+        let to = close_rows(home, flags, BASE, WIDTH, n);
         home[COUNTED] = to as u64;
-    }
-
-    // Moves them, and says how many there are.
-    fn close_rows(self, home: &mut [u64], flags: &mut [u64]) -> usize
-        requires wide { 0 < WIDTH }
-        requires words { BASE + MOST * WIDTH ≤ length home.old }
-        requires small { BASE + MOST * WIDTH ≤ 262144 }
-        requires counted { COUNTED < length home.old }
-        requires flags { MOST ≤ length flags.old }
-        ensures { Closed BASE WIDTH (min (at home.old COUNTED) MOST) home.old flags.old home.new flags.new result }
-    {
-        let mut to = 0;
-        // By index: rows move within the words that they are read from.
-        for i in 0..self.in_use(home) {
-            if home[BASE + i * WIDTH] != 0 {
-                move_words(home, BASE + i * WIDTH, BASE + to * WIDTH, WIDTH);
-                flags[to] = flags[i];
-                to += 1;
-            }
-        }
-        to
     }
 }
