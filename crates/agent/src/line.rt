@@ -72,6 +72,7 @@ impl Line {
         }
     }
 
+    // (By hand: `as_ref` would leave both lent, to be taken out again.)
     pub fn text(&self) -> Result<&[u8], Fault> {
         match &self.held {
             Ok(text) => Ok(text.as_slice()),

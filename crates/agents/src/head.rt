@@ -37,7 +37,7 @@ impl Head {
         }
     }
 
-    // Whether both are of the same report.
+    // Whether both are of the same report: `==`, with its clause.
     pub fn same(self, other: Head) -> bool
         ensures { result ≡ (other.machine.0 == self.machine.0 && other.life.0 == self.life.0 && other.number.0 == self.number.0) }
     {

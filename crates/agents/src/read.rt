@@ -12,10 +12,11 @@ use crate::heard::Run;
 use crate::order::Order;
 use jobs::ids::{Life, MachineId, ReportNumber, TaskId};
 use jobs::spec::Spec;
-use octets::field::{fill, number_at};
+use octets::field::{filled, number_at};
 use std::alloc::Global;
 
-// A likeness with so many tags.
+// A likeness with so many tags. (`as`, here and below: the proofs speak of the numbers themselves. `lines::read` reads the same fields,
+// but lends the tags, which may be too many there.)
 fn spec_in(bytes: &[u8], count: u8) -> Spec
     requires few { count ≤ 8 }
     requires whole { 14 + 4 * count ≤ length bytes.now }
@@ -23,15 +24,13 @@ fn spec_in(bytes: &[u8], count: u8) -> Spec
     ensures count { result.count ≡ count }
 {
     let end = 13 + 4 * count as usize;
-    let mut tags = [0u32; 8];
-    fill(&mut tags, &bytes[13..end]);
     Spec {
         image: number_at(bytes, 0),
         cpu: number_at(bytes, 4),
         mem: number_at(bytes, 8),
         apart: bytes[end] == 1,
         count,
-        tags,
+        tags: filled(&bytes[13..end]),
     }
 }
 
@@ -87,7 +86,7 @@ fn read_run(heap: Global, rest: &[u8]) -> Result<Run, Passed>
     })
 }
 
-// What these bytes say.
+// What these bytes say: a refusal, or what is to run; no other answer comes to a report. (A match over bytes, by a rule of the project.)
 pub fn read_answer(heap: Global, bytes: &[u8]) -> Result<Run, Passed>
     ensures { HeardAs (read_answer_lem bytes.now) result }
 {

@@ -11,6 +11,7 @@ use crate::head::Head;
 use crate::order::{Order, Seen};
 use crate::running::is_ready;
 use jobs::ids::TaskId;
+use lines::kind::Kind;
 use std::alloc::{AllocError, Global};
 
 // The frame, the kind of the call, and a report's head and number of tasks.
@@ -19,7 +20,7 @@ fn add_front(bytes: &mut Vec<u8>, tag: u32, head: Head, count: u16) -> Result<()
 {
     bytes.extend_from_slice(&(25 + 9 * u32::from(count)).to_be_bytes())?;
     bytes.extend_from_slice(&tag.to_be_bytes())?;
-    bytes.push(7)?;
+    bytes.push(Kind::Report as u8)?;
     bytes.extend_from_slice(&head.machine.0.to_be_bytes())?;
     bytes.extend_from_slice(&head.life.0.to_be_bytes())?;
     bytes.extend_from_slice(&head.number.0.to_be_bytes())?;

@@ -1,4 +1,5 @@
 // What is ordered and what runs, by task.
+// (`seens` and `orders` come apart: each function here changes one at most, and the agent, which has both, lends what is needed.)
 ghost use Rattle.std.specs.List as list;
 ghost use Rattle.std.specs.Prelude.{◌≡◌, ◌==◌, IfOk, OnOk};
 ghost use Rattle.model.specs.Lists.{find, some};

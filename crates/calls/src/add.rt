@@ -13,7 +13,7 @@ use crate::call::Added;
 use jobs::finding::find_machine;
 use jobs::machine::Machine;
 use jobs::machine_rows::add_machine;
-use octets::field::fill;
+use octets::field::filled;
 use settling::pass::settle;
 
 const MOST: u32 = 1_000_000_000;
@@ -33,14 +33,12 @@ fn machine(added: Added) -> Machine
     ensures mem { result.mem ≡ added.entry.mem }
     ensures tags { take result.count result.tags ≡ tags_of added.entry.tags.now }
 {
-    let mut tags = [0; 16];
-    fill(&mut tags, added.tags);
     Machine {
         num: added.machine,
         cpu: added.cpu,
         mem: added.mem,
         count: (added.tags.len() / 4) as u8,
-        tags,
+        tags: filled(added.tags),
     }
 }
 

@@ -42,6 +42,7 @@ impl From<full::Full> for Refusal {
     }
 }
 
+// (An agent's `Head` has the same fields, but is that agent's own state: one type would tie the two ends of the line.)
 #[derive(Clone, Copy)]
 pub struct RunOn {
     pub machine: MachineId,

@@ -29,6 +29,7 @@ fn heard_there(place: Place, ending: bool, id: TaskId, report: Reported) -> Hear
     }
 }
 
+// (A match over phases, by a rule of the project.)
 pub fn heard(phase: Phase, id: TaskId, report: Reported) -> Heard
     ensures { (t : Task) → t.phase ≡ phase_of phase → t.id ≡ id.0 → t.machine ≡ machine_of phase → t.life ≡ life_of phase → HeardAs report.entry.machine.0 report.entry.life.0 (seens_of report.entry.tasks.now) t result }
 {

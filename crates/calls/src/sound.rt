@@ -12,6 +12,7 @@ use jobs::layout::LAST_ID;
 use jobs::rows::{JOBS, MACHINES, TASKS};
 
 // Is the job in row `i`, if there is one, the first of its name.
+// (Jobs and machines apart, as they are found: what is compared is a name there and a number here.)
 fn first_job(home: &[u64], i: usize) -> bool
     requires words { home_words_lem ≤ length home.now }
     requires within { i < job_rows_lem home.now }

@@ -17,7 +17,7 @@ fn tags(spec: &Spec) -> &[u32]
     &spec.tags[..usize::from(spec.count)]
 }
 
-// Is that the spec in a kind.
+// Is that the spec in a kind. (No derive: it would compare tags that do not count.)
 pub fn same_spec(kind: Kind, spec: &Spec) -> bool
     ensures { result ≡ same_spec_lem (spec_of spec.now) (spec_from_lem kind.entry.words.now) }
 {

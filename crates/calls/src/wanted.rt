@@ -1,6 +1,5 @@
 // What is wanted, tested and as a job.
-ghost use Rattle.std.specs.Prelude.{◌≡◌, ℕ, ◌/◌, ◌≤◌, length, take};
-ghost use Rattle.calls.specs.Meaning.{like_of, tags_of};
+ghost use Rattle.calls.specs.Meaning.{like_of};
 ghost use Rattle.calls.specs.Wanted.{SpecAs, JobAs};
 
 use crate::call::{Likeness, Wanted};
@@ -8,16 +7,7 @@ use crate::names::name_of;
 use jobs::ids::Version;
 use jobs::job::Job;
 use jobs::spec::Spec;
-use octets::field::fill;
-
-fn spec_tags(bytes: &[u8]) -> [u32; 8]
-    requires { length bytes.now / 4 ≤ 8 }
-    ensures { take (length bytes.now / 4) result ≡ tags_of bytes.now }
-{
-    let mut tags = [0; 8];
-    fill(&mut tags, bytes);
-    tags
-}
+use octets::field::filled;
 
 // The spec that this is, if it is in range.
 pub fn spec_of(like: Likeness) -> Option<Spec>
@@ -32,7 +22,7 @@ pub fn spec_of(like: Likeness) -> Option<Spec>
         mem: like.mem,
         apart: like.apart,
         count: (like.tags.len() / 4) as u8,
-        tags: spec_tags(like.tags),
+        tags: filled(like.tags),
     })
 }
 

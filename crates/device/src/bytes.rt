@@ -9,6 +9,7 @@ pub fn encode(w: u64) -> [u8; 8]
     w.to_be_bytes()
 }
 
+// (By hand, though octets reads numbers: this crate needs no other but the model.)
 fn decode_one(bytes: &[u8], i: usize) -> u64
     requires { 8 * i + 8 ≤ length bytes.now }
     ensures { result ≡ word_at bytes.now i }

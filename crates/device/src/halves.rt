@@ -43,6 +43,7 @@ fn differ<K: Kept>(words: &K, from: usize, home: &[u64]) -> usize
     ensures { Ended (differs from 0 home.now) (K.word words.now) result (K.word words.now) }
 {
     let mut n = 0;
+    // A loop: in generic code a closure would need clauses of its own, so `filter` and `count` are no plainer.
     for (i, word) in home.iter().enumerate() {
         if words.load(from + i) != *word {
             n += 1;

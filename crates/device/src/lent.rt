@@ -1,4 +1,4 @@
-// Kept words in memory that is lent. (Not `Fused` with a fuse that is too long to burn: what fails here is nothing, and its type says so.)
+// Kept words in memory that is lent. (`Fused` would need a number of stores that is never used up.)
 ghost use Rattle.std.specs.Prelude.{◌≡◌, length, slice_index};
 
 use crate::kept::{Dark, Kept, WORDS};

@@ -104,6 +104,7 @@ fn open_file(rt: &HostRuntime, path: &str) -> io::Result<File> {
 }
 
 // Made aside and moved into place as a whole, so that there is never a part of it.
+// (The agent replaces its `life` likewise: what is written differs, and so does the directory, so one function would take five arguments.)
 fn make(rt: &HostRuntime, paths: Paths<'_>, aside: Result<&str, AllocError>) -> io::Result<()> {
     let aside = aside?;
     let file = File::create(rt, aside)?;

@@ -4,7 +4,7 @@ use std::alloc::AllocError;
 use std::fs::File;
 use std::{fmt, io};
 
-// Why the herd does not go on. (The agent has its own: the texts, which programs fix, differ in all but three.)
+// Why the herd does not go on. (The agent has its own: the texts, which programs fix, differ in all but two.)
 #[derive(Debug, Drop)]
 pub enum Trouble {
     Usage,
@@ -62,6 +62,7 @@ impl fmt::Display for Trouble {
 pub fn open(rt: &HostRuntime, dir: &str) -> Result<File, Trouble> {
     let file = format!(in rt.alloc(); "{dir}/kept")?;
     let aside = format!(in rt.alloc(); "{dir}/kept.new");
+    // By hand: `as_ref` would leave the error lent, to be copied out again.
     let path = match &aside {
         Ok(aside) => Ok(aside.as_str()),
         Err(e) => Err(*e),

@@ -1,4 +1,5 @@
 // Finding a job by its name, and a machine by its number.
+// (Two functions, here and where they are added: one for both would need a trait with a clause for each key and table, longer than the two.)
 ghost use Rattle.std.specs.Prelude.{◌≡◌, ℕ, ◌+◌, ◌*◌, ◌%◌, ◌<◌, ◌≤◌, List, length, take};
 ghost use Rattle.model.specs.Lists.{same};
 ghost use Rattle.model.specs.State.{is_job, is_machine};

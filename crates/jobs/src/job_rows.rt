@@ -47,7 +47,7 @@ fn close_jobs(home: &mut [u64])
     JOBS.close(home, &mut none);
 }
 
-// Closes the holes where no row is free. (Machines and tasks have the same two lines; what they say of their table differs.)
+// Closes the holes where no row is free. (Machines and tasks have the same lines, here and in adding one; what they say of their table differs.)
 fn make_job_room(home: &mut [u64])
     requires { home_words_lem ≤ length home.old }
     ensures now { JobsNow (jobs_of home.old) home.old home.new }

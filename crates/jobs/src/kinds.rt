@@ -16,11 +16,18 @@ pub fn low_half(w: u64) -> u32
     (w % 4_294_967_296) as u32
 }
 
+// The low sixteen bits of a word.
+fn low_short(w: u64) -> u16
+    ensures { result ≡ w % 65536 }
+{
+    (w % 65536) as u16
+}
+
 // A machine's number, as it stands in a machine's row and in a task's.
 pub(crate) fn machine_number(word: u64) -> MachineId
     ensures { result.0 ≡ word % 65536 }
 {
-    MachineId((word % 65536) as u16)
+    MachineId(low_short(word))
 }
 
 impl<'a> JobRow<'a> {
@@ -32,7 +39,7 @@ impl<'a> JobRow<'a> {
         }
     }
 
-    // The job, if the row isn't a hole.
+    // The job that a row stands for that is no hole.
     pub fn job(self) -> Job
         ensures { job_of result ≡ job_from_lem self.entry.words.now }
     {
@@ -41,8 +48,8 @@ impl<'a> JobRow<'a> {
             name: kind.name(),
             version: kind.version(),
             spec: kind.spec(),
-            count: (self.words[23] % 65536) as u16,
-            least: (self.words[24] % 65536) as u16,
+            count: low_short(self.words[23]),
+            least: low_short(self.words[24]),
             most: self.most(),
         }
     }
@@ -51,7 +58,7 @@ impl<'a> JobRow<'a> {
     pub fn most(self) -> u16
         ensures { result ≡ at self.entry.words.now 25 % 65536 }
     {
-        (self.words[25] % 65536) as u16
+        low_short(self.words[25])
     }
 }
 

@@ -62,7 +62,7 @@ impl Kind<'_> {
         if name.len() as u64 != self.words[14].min(64) {
             return false;
         }
-        // A loop: of a closure in generic code the check says nothing, so `all` did not close.
+        // A loop: in generic code a closure would need clauses of its own, so `all` is no plainer.
         for k in 0..name.len() {
             if name.byte(k) != byte_at(&self.words[15..23], k) {
                 return false;

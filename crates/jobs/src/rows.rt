@@ -76,7 +76,7 @@ impl<const BASE: usize, const WIDTH: usize, const MOST: usize, const COUNTED: us
         ensures { (flags : List ℕ) → result ≡ length (span (entry_at BASE WIDTH home.now flags) 0 (min (at home.now COUNTED) MOST)) }
     {
         let mut count = 0;
-        // A loop: of a closure in generic code the check says nothing, so a chain was tried and did not close.
+        // A loop: in generic code a closure would need clauses of its own, so a chain is no plainer.
         for i in 0..self.in_use(home) {
             if !self.row(home, i).is_hole() {
                 count += 1;

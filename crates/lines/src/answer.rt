@@ -9,7 +9,7 @@ ghost use Rattle.calls.specs.Answers.{number_of};
 ghost use Rattle.lines.specs.Code.{Awake, Tells, code};
 ghost use Rattle.lines.specs.Held.{Holds};
 
-use crate::kind::Kind;
+use crate::kind::{AnswerKind, Kind};
 use crate::line::Line;
 use calls::answer::Refusal;
 
@@ -18,7 +18,8 @@ fn refused(tag: u32, why: Refusal) -> [u8; 10]
     ensures { result ≡ framed tag (answer_bytes (Refused (number_of why))) }
 {
     let [a, b, c, d] = tag.to_be_bytes();
-    [0, 0, 0, 6, a, b, c, d, 0, why.number()]
+    let kind = AnswerKind::Refused as u8;
+    [0, 0, 0, 6, a, b, c, d, kind, why.number()]
 }
 
 // Why a call of this kind is turned away. No kind is built yet, so no time was ever told. Any byte may stand for a kind.

@@ -3,7 +3,7 @@ ghost use Rattle.std.specs.Prelude.{◌≡◌, ◌+◌, ◌*◌, ◌<◌, ◌≤
 ghost use Rattle.std.specs.Char.{digit_char};
 ghost use Rattle.lines.specs.Text.{hex_text, out_text};
 
-// A digit below 16, in lower case.
+// A digit below 16, in lower case. (`char::from_digit` gives an `Option` of a char, to be taken apart twice.)
 pub fn digit(n: u8) -> u8
     requires { n < 16 }
     ensures { result ≡ digit_char n }
@@ -11,7 +11,7 @@ pub fn digit(n: u8) -> u8
     if n < 10 { b'0' + n } else { b'a' - 10 + n }
 }
 
-// Writes bytes in hexadecimal behind the first four characters.
+// Writes bytes in hexadecimal behind the first four characters. (In fixed memory; agents does it in a `Vec`.)
 fn digits(bytes: &[u8], text: &mut [u8])
     requires { 4 + 2 * length bytes.now ≤ length text.old }
     ensures { take (4 + 2 * length bytes.now) text.new ≡ take 4 text.old ++ hex_text bytes.now }
@@ -24,6 +24,7 @@ fn digits(bytes: &[u8], text: &mut [u8])
 }
 
 // The line of text that says an answer; nothing is written where there is no room for it.
+// (Its length and not the part: the clause says of the whole text that it stays as it was.)
 pub fn say(answer: &[u8], text: &mut [u8]) -> Option<usize>
     ensures text { MatchOption result ((length text.old < 5 + 2 * length answer.now) × (text.new ≡ text.old)) (λ n. take n text.new ≡ out_text answer.now) }
     ensures within { IfSome result (λ n. n ≤ length text.new) }

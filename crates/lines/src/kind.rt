@@ -1,4 +1,4 @@
-// The kinds of call, by the first byte of a call.
+// The kinds of calls and of answers, by their first byte.
 ghost use Rattle.lines.specs.Kinds.{KindAs};
 
 #[derive(Clone, Copy, Debug, PartialEq, Eq)]
@@ -14,8 +14,16 @@ pub enum Kind {
     Show = 9,
 }
 
+#[derive(Clone, Copy, Debug, PartialEq, Eq)]
+pub enum AnswerKind {
+    Refused = 0,
+    Done = 1,
+    Runs = 2,
+    Shown = 3,
+}
+
 impl Kind {
-    // The kind that this byte says, if it is one.
+    // The kind that this byte says, if it is one. (An `Option`: the error of a `TryFrom` would say no more.)
     pub fn of(byte: u8) -> Option<Self>
         ensures { KindAs byte result }
     {

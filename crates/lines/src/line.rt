@@ -80,7 +80,7 @@ impl Line {
         self.count > ROOM as u64
     }
 
-    // The call's first byte, which says its kind; 0 where there is none.
+    // The call's first byte, which says its kind, and may be any; 0 where there is none, since 0 is no kind.
     pub fn kind(&self) -> u8
         ensures { (line : List ℕ) → Holds self.now.bytes self.now.count line → result ≡ kind_in (call_in line) }
     {

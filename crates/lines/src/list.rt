@@ -51,7 +51,7 @@ pub fn is_of(row: TaskRow, name: &[u8]) -> bool
     !row.is_hole() && row.kind().is_named(&name)
 }
 
-// The number that the bytes have for a phase.
+// The number that the bytes have for a phase. (A match over phases, here and below, by a rule of the project.)
 fn phase_number(phase: Phase) -> u8
     ensures { result ≡ w.phase_of (phase_of phase) }
 {

@@ -6,6 +6,7 @@ ghost use Rattle.lines.specs.Held.{Holds};
 ghost use Rattle.lines.specs.Resume.{Reads};
 ghost use Rattle.lines.specs.Text.{line_of, time_line_lem};
 
+use crate::kind::Kind;
 use crate::line::Line;
 use crate::stage::Stage;
 use crate::step::{Step, next};
@@ -39,7 +40,8 @@ fn time_line(time: u64) -> [u8; 17]
     ensures { result ≡ time_line_lem (meant time) }
 {
     let [a, b, c, d, e, f, g, h] = time.to_be_bytes();
-    [0, 0, 0, 13, 0, 0, 0, 0, 8, a, b, c, d, e, f, g, h]
+    let kind = Kind::Time as u8;
+    [0, 0, 0, 13, 0, 0, 0, 0, kind, a, b, c, d, e, f, g, h]
 }
 
 impl Reader {

@@ -11,6 +11,7 @@ ghost use Rattle.calls.specs.Answers.{answer_of};
 ghost use Rattle.lines.specs.Puts.{Puts};
 ghost use Rattle.lines.specs.Replied.{reply_room};
 
+use crate::kind::AnswerKind;
 use crate::list::{OfJob, RunsOn};
 use crate::listing::put_list;
 use crate::write::{put_number, put_u8};
@@ -53,7 +54,7 @@ fn put_run(out: &mut [u8], at: usize, home: &[u64], live: &[u64], run: RunOn) ->
     ensures bytes { Puts (answer_bytes (Runs run.machine.0 run.life.0 run.number.0 (orders (keep (on_machine run.machine.0) (tasks_of home.now live.now))))) out.old out.new at result }
     ensures room { result ≤ at + 110613 }
 {
-    let end = put_u8(out, at, 2);
+    let end = put_u8(out, at, AnswerKind::Runs as u8);
     let end = put_number(out, end, run.machine.0);
     let end = put_number(out, end, run.life.0);
     let end = put_number(out, end, run.number.0);
@@ -69,7 +70,7 @@ fn put_shown(out: &mut [u8], at: usize, home: &[u64], live: &[u64], name: &[u8])
     ensures room { result ≤ at + 110613 }
     ensures long { 64 < length name.now → keep (of_job name.now) (tasks_of home.now live.now) ≡ [] }
 {
-    let end = put_u8(out, at, 3);
+    let end = put_u8(out, at, AnswerKind::Shown as u8);
     put_list(&OfJob(name), out, end, home, live)
 }
 
@@ -82,10 +83,10 @@ fn put_answer(out: &mut [u8], at: usize, home: &[u64], live: &[u64], answer: &An
 {
     match *answer {
         Answer::TurnedAway(why) => {
-            let end = put_u8(out, at, 0);
+            let end = put_u8(out, at, AnswerKind::Refused as u8);
             put_u8(out, end, why.number())
         }
-        Answer::Yes => put_u8(out, at, 1),
+        Answer::Yes => put_u8(out, at, AnswerKind::Done as u8),
         Answer::Run(run) => put_run(out, at, home, live, run),
         Answer::Lines(name) => put_shown(out, at, home, live, name),
     }

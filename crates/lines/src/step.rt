@@ -75,7 +75,7 @@ fn clock(before: Option<u64>, c: u8) -> Stage
     }
 }
 
-// What one character does.
+// What one character does. (A match over stages, by a rule of the project.)
 pub fn next(stage: Stage, c: u8) -> Step
     ensures { (bs ts : List ℕ) → resume result.stage (bs ++ list_in result.byte) ts ≡ resume stage bs (c ∷ ts) }
 {

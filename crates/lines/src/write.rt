@@ -41,7 +41,7 @@ fn put_tags(out: &mut [u8], at: usize, tags: &[u32]) -> usize
     end
 }
 
-// A spec, which takes 46 bytes at most.
+// A spec, which takes 46 bytes at most. (`as`: the clauses speak of the numbers themselves.)
 pub fn put_spec(out: &mut [u8], at: usize, spec: &Spec) -> usize
     requires { at + 46 ≤ length out.old }
     ensures bytes { Puts (spec_bytes (spec_of spec.now)) out.old out.new at result }

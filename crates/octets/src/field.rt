@@ -97,3 +97,13 @@ pub fn fill(out: &mut [u32], bytes: &[u8])
         out[i] = number_at(piece, 0);
     }
 }
+
+// Such numbers, as many as there is room for; behind them zeros.
+pub fn filled<const N: usize>(bytes: &[u8]) -> [u32; N]
+    requires { length bytes.now / 4 ≤ N }
+    ensures { take (length bytes.now / 4) result ≡ tags_in_lem (length bytes.now / 4) bytes.now }
+{
+    let mut numbers = [0; N];
+    fill(&mut numbers, bytes);
+    numbers
+}

@@ -12,7 +12,7 @@ use calls::mind::Mind;
 use lines::line::Line;
 use lines::read::read;
 
-// A line that is longer than is held is no call that could be done.
+// A line that is longer than is held is no call that could be done. (No `?`: an answer is no `Result`.)
 pub fn respond<'a>(mind: &mut Mind, line: &'a Line) -> Answer<'a>
     ensures { (bytes : List ℕ) → Holds line.now.bytes line.now.count bytes → AreBytes bytes → Responds (call_in bytes) (held_by mind.old) result (held_by mind.new) }
 {

@@ -30,6 +30,7 @@ fn clear_unsound(home: &mut [u64]) -> bool
 }
 
 // Any words wake as some mind; it only loads. False where the words are not sound: no herd stored them, and the mind is blank.
+// (No `Result`, here and above: damaged words wake too, so there is no error.)
 pub fn wake<K: Kept>(words: &K, mind: &mut Mind) -> bool
     ensures follows { Ended herd_code.wakes (K.word words.now) (held_by mind.new) (K.word words.now) }
     ensures runs { (es : List (Happens Bytes Bytes)) → WaysRun herd_code es (asleep (K.word words.now)) → WaysRun herd_code es (awake (held_by mind.new) (K.word words.now)) }

@@ -58,14 +58,14 @@ fn add_to_all(home: &[u64], w: Weight, loads: &mut [Load])
     }
 }
 
-// What is on each machine, and whether a task of that job is.
+// What is on each machine, and whether a task of that job is. (The loads are lent, one for each machine's row: nothing allocates.)
 pub fn weigh_all(home: &[u64], job: &Name, loads: &mut [Load])
     requires words { home_words_lem ≤ length home.now }
     requires size { length loads.old ≡ 256 }
     ensures { (live : List ℕ) → Loaded (name_of job.now) home.now (tasks_of home.now live) loads.new }
 {
     loads.fill(Load::default());
-    // A loop: `for_each` and `fold` would change what their closure holds, of which the check then knows nothing.
+    // A loop: what its step changes is lent, and `for_each` or `fold` would need clauses at the closure, so they are no plainer.
     for i in 0..TASKS.in_use(home) {
         if let Some(w) = weight(home, i, job) {
             add_to_all(home, w, loads);

@@ -18,7 +18,7 @@ returns c =
     let n = length c.args.like.tags.now / 4 in
     let l = length_tags n c.args.like.tags.now in
     let i : c.args.like.image < 4294967296 = search rules in
-    let fits : (k : ℕ) → get_or c.spec_tags.result k 0 < 4294967296 = search rules in (
-      spec_ok (like_of c.args.like) i c.if-like-gt1000000.false c.if-like-gt1000000-2.false (omega arith) (small_tags n c.spec_tags.result (tags_of c.args.like.tags.now) c.spec_tags.ensures fits),
-      λ j. record { image = c.args.like.image; cpu = c.args.like.cpu; mem = c.args.like.mem; tags = c.spec_tags.ensures j; apart = c.args.like.apart },
+    let fits : (k : ℕ) → get_or c.filled.result k 0 < 4294967296 = search rules in (
+      spec_ok (like_of c.args.like) i c.if-like-gt1000000.false c.if-like-gt1000000-2.false (omega arith) (small_tags n c.filled.result (tags_of c.args.like.tags.now) c.filled.ensures fits),
+      λ j. record { image = c.args.like.image; cpu = c.args.like.cpu; mem = c.args.like.mem; tags = c.filled.ensures j; apart = c.args.like.apart },
     )
