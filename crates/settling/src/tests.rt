@@ -14,6 +14,7 @@ use jobs::machine_rows::{add_machine, hear};
 use jobs::name::Name;
 use jobs::rows::{JOBS, MACHINES, TASKS};
 use jobs::spec::Spec;
+use jobs::tasks::{end_task, remove_task};
 use std::test::Fail;
 
 // Do the tasks have rising numbers, not above the last given.
@@ -44,19 +45,29 @@ fn machine(num: u16) -> Machine {
     }
 }
 
-fn job(version: u32, tags: u8, count: u16) -> Job
+// A job that is named by one letter.
+fn job_named(letter: u8, cpu: u32, version: u32, tags: u8, count: u16) -> Job
     requires { tags ≤ 8 }
     ensures { result.version.0 ≡ version }
 {
     Job {
         name: Name {
             len: 1,
-            words: [7, 0, 0, 0, 0, 0, 0, 0],
+            words: [
+                u64::from_be_bytes([letter, 0, 0, 0, 0, 0, 0, 0]),
+                0,
+                0,
+                0,
+                0,
+                0,
+                0,
+                0,
+            ],
         },
         version: Version(version),
         spec: Spec {
             image: version,
-            cpu: 4,
+            cpu,
             mem: 1,
             apart: false,
             count: tags,
@@ -68,17 +79,29 @@ fn job(version: u32, tags: u8, count: u16) -> Job
     }
 }
 
-// One pass, and then number, phase and machine in row `i`.
-fn pass(home: &mut [u64], live: &mut [u64], i: usize) -> Result<[u64; 3], Fail> {
+fn job(version: u32, tags: u8, count: u16) -> Job
+    requires { tags ≤ 8 }
+    ensures { result.version.0 ≡ version }
+{
+    job_named(b'a', 4, version, tags, count)
+}
+
+// One pass at that time, and then number, phase and machine in row `i`.
+fn pass_at(time: u64, home: &mut [u64], live: &mut [u64], i: usize) -> Result<[u64; 3], Fail> {
     if home.len() < HOME_WORDS || live.len() < LIVE_WORDS || i >= 2048 {
         return Err(Fail::new("too short"));
     }
     if !is_numbered(home) {
         return Err(Fail::new("not numbered"));
     }
-    settle(home, live, 5);
+    settle(home, live, time);
     let row = TASKS.row(home, i).words;
     Ok([row[0], row[1], row[2]])
+}
+
+// The same, soon after all was heard.
+fn pass(home: &mut [u64], live: &mut [u64], i: usize) -> Result<[u64; 3], Fail> {
+    pass_at(5, home, live, i)
 }
 
 // A machine that was heard at time 1, in row `i`.
@@ -147,5 +170,35 @@ fn tags_are_missed(rt: HostRuntime) -> Result<(), Fail> {
     add(&mut home, job(1, 1, 2))?;
     assert_eq!(rt; pass(&mut home, &mut live, 0)?, [1, 0, 0]);
     assert_eq!(rt; pass(&mut home, &mut live, 1)?, [2, 0, 0]);
+    Ok(())
+}
+
+// A task that is ending counts on its machine until it is gone: what needs its room waits, and goes there then.
+#[test]
+fn ending_counts(rt: HostRuntime) -> Result<(), Fail> {
+    let mut home = [0; HOME_WORDS];
+    let mut live = [0; LIVE_WORDS];
+    heard_machine(&mut home, &mut live, 0)?;
+    add(&mut home, job(1, 0, 1))?;
+    assert_eq!(rt; pass(&mut home, &mut live, 0)?, [1, 1, 1]);
+    end_task(&mut home, 0);
+    add(&mut home, job_named(b'b', 7, 1, 0, 1))?;
+    assert_eq!(rt; pass(&mut home, &mut live, 0)?, [1, 2, 1]);
+    assert_eq!(rt; pass(&mut home, &mut live, 2)?, [3, 0, 0]);
+    remove_task(&mut home, 0);
+    remove_task(&mut home, 1);
+    assert_eq!(rt; pass(&mut home, &mut live, 2)?, [3, 1, 1]);
+    Ok(())
+}
+
+// A machine is present for 30 seconds after it was heard, and given nothing afterwards.
+#[test]
+fn silence_is_absence(rt: HostRuntime) -> Result<(), Fail> {
+    let mut home = [0; HOME_WORDS];
+    let mut live = [0; LIVE_WORDS];
+    heard_machine(&mut home, &mut live, 0)?;
+    add(&mut home, job(1, 0, 2))?;
+    assert_eq!(rt; pass_at(30_001, &mut home, &mut live, 0)?, [1, 1, 1]);
+    assert_eq!(rt; pass_at(30_002, &mut home, &mut live, 1)?, [2, 0, 0]);
     Ok(())
 }
