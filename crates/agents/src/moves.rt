@@ -1,4 +1,5 @@
 // An agent's moves.
+// (Each says that the machine stays, since its contract is the move's: no type could say it of a move.)
 ghost use Rattle.std.specs.Prelude.{◌≡◌, ◌+◌};
 ghost use Rattle.model.specs.Answers.{read_answer_lem};
 ghost use Rattle.model.specs.Lines.{call_in};

@@ -39,7 +39,7 @@ fn fits_on(row: MachineRow, heard: u64, spec: &Spec, load: Load, time: u64) -> b
         && load.mem <= u64::from(mem - spec.mem)
 }
 
-// The better of a choice and one more.
+// The better of a choice and one more. (A match: `filter` and `or` would hide that of two alike the first stays.)
 fn improve(best: Option<Choice>, at: usize, left: u64) -> Option<Choice>
     ensures { result ≡ improved best at left }
 {
