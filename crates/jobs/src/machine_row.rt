@@ -23,6 +23,7 @@ impl MachineRow<'_> {
         !self.is_hole() && num == self.num()
     }
 
+    // (A kind has cpu and memory at the same places by chance; a method of every `Row` would be wrong of a task's.)
     pub fn cpu(self) -> u32
         ensures { result ≡ low (at self.entry.words.now 2) }
     {
