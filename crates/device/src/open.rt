@@ -17,11 +17,6 @@ pub struct Paths<'a> {
     pub dir: &'a str,
 }
 
-const HERE: Paths<'static> = Paths {
-    file: "kept",
-    dir: ".",
-};
-
 // Eight bytes for each of 262,144 words.
 const BYTES: u64 = 2097152;
 
@@ -44,7 +39,7 @@ impl fmt::Display for OpenError {
             ),
             OpenError::Make(e) => write!(
                 f,
-                "kept: cannot be made: {e}; see that this directory can be written and has 2 MiB left"
+                "kept: cannot be made: {e}; see that its directory is there, can be written and has 2 MiB left"
             ),
             OpenError::Open(e) => write!(
                 f,
@@ -58,9 +53,16 @@ impl fmt::Display for OpenError {
     }
 }
 
-// Opens the file and reads its words into the mirror. A file of another length is refused; where there is none it is made, all 0.
-pub fn open<'a>(rt: &HostRuntime, mirror: &'a mut [u64; WORDS]) -> Result<Filed<'a>, OpenError> {
-    let mut file = open_at(rt, HERE, Ok("kept.new"))?;
+// Opens the file, or makes it, as `open_at` does, and reads its words into the mirror.
+pub fn open<'a>(
+    rt: &HostRuntime,
+    paths: Paths<'_>,
+    aside: Result<&str, AllocError>,
+    mirror: &'a mut [u64; WORDS],
+) -> Result<Filed<'a>, OpenError>
+    ensures { IfErr result IsFair }
+{
+    let mut file = open_at(rt, paths, aside)?;
     read_all(&mut file, mirror).map_err(OpenError::Read)?;
     Ok(Filed::of(file, mirror))
 }

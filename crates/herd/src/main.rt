@@ -1,12 +1,17 @@
 // `herd [DIR]`: answers each line of standard input by one line of standard output, over the kept words in DIR.
 #![tactic(auto)]
 
-mod kept;
 mod serve;
+mod trouble;
 
-use kept::Trouble;
+use calls::mind::Mind;
+use device::filed::Filed;
+use device::kept::WORDS;
+use device::open::{Paths, open};
 use serve::serve;
+use serving::wake::wake;
 use std::env;
+use trouble::Trouble;
 
 // The directory of the kept words: the only argument, else the one that it is started in.
 fn directory(rt: &HostRuntime) -> Result<String, Trouble> {
@@ -20,10 +25,36 @@ fn directory(rt: &HostRuntime) -> Result<String, Trouble> {
     Ok(dir)
 }
 
+// The words of the file `kept` in this directory, made where there is none.
+fn kept<'a>(
+    rt: &HostRuntime,
+    dir: &str,
+    mirror: &'a mut [u64; WORDS],
+) -> Result<Filed<'a>, Trouble> {
+    let file = format!(in rt.alloc(); "{dir}/kept")?;
+    let aside = format!(in rt.alloc(); "{dir}/kept.new");
+    // By hand: `as_ref` would leave the error lent, to be copied out again.
+    let path = match &aside {
+        Ok(aside) => Ok(aside.as_str()),
+        Err(e) => Err(*e),
+    };
+    let paths = Paths {
+        file: file.as_str(),
+        dir,
+    };
+    Ok(open(rt, paths, path, mirror)?)
+}
+
+// The mirror of the kept words and the mind are lent from the stack.
 fn run(rt: &HostRuntime) -> Result<(), Trouble> {
     let dir = directory(rt)?;
-    let _kept = kept::open(rt, dir.as_str())?;
-    serve(rt).map_err(Trouble::Lines)
+    let mut mirror = [0u64; WORDS];
+    let mut words = kept(rt, dir.as_str(), &mut mirror)?;
+    let mut mind = Mind::new();
+    if !wake(&words, &mut mind) {
+        return Err(Trouble::Damaged);
+    }
+    serve(rt, &mut words, &mut mind)
 }
 
 fn main(rt: HostRuntime) -> Result<(), Trouble> {

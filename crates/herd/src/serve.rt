@@ -1,44 +1,82 @@
 // Lines in, lines out: nothing is held of a line but what its answer depends on, and nothing is allocated.
-use lines::answer::answer;
+use crate::trouble::Trouble;
+use calls::mind::Mind;
+use device::filed::Filed;
 use lines::hex::say;
 use lines::input::each_piece;
 use lines::reader::Reader;
+use lines::reply::{ROOM, Reply};
+use serving::answer::answer;
 use std::io;
-use std::io::Write;
+use std::io::{ErrorKind, Write};
 
-// The line of text is at its end: its answer goes out, in one write.
-fn reply(rt: &HostRuntime, reader: &mut Reader) -> io::Result<()> {
-    let bytes = answer(reader.finish());
-    let mut text = [0u8; 25];
-    if let Some(n) = say(&bytes, &mut text) {
-        rt.stdout().write_all(&text[..n])?;
+// The longest answer as text: a word and a space, two digits for each byte, a newline.
+const TEXT: usize = 5 + 2 * ROOM;
+
+// A line as it is read, whether it has begun, and the answer to it, as bytes and as text.
+#[derive(Drop)]
+struct Desk {
+    reader: Reader,
+    begun: bool,
+    reply: Reply,
+    text: [u8; TEXT],
+}
+
+// The line of text is at its end: it is answered, and what has changed is kept before the answer goes out, in one write.
+fn reply(
+    rt: &HostRuntime,
+    words: &mut Filed,
+    mind: &mut Mind,
+    desk: &mut Desk,
+) -> Result<(), Trouble> {
+    answer(words, mind, desk.reader.finish(), &mut desk.reply)?;
+    if let Some(n) = say(desk.reply.bytes(), &mut desk.text) {
+        rt.stdout()
+            .write_all(&desk.text[..n])
+            .map_err(Trouble::Lines)?;
     }
-    reader.restart();
+    desk.reader.restart();
+    desk.begun = false;
     Ok(())
 }
 
-// One character more; whether a line has begun then. (It is the answer to a question, and no value stands beside it.)
-fn take(rt: &HostRuntime, reader: &mut Reader, c: u8) -> io::Result<bool> {
-    if c == b'\n' {
-        reply(rt, reader)?;
-        return Ok(false);
+// What came in one read.
+fn feed(
+    rt: &HostRuntime,
+    words: &mut Filed,
+    mind: &mut Mind,
+    desk: &mut Desk,
+    piece: &[u8],
+) -> Result<(), Trouble> {
+    for c in piece {
+        if *c == b'\n' {
+            reply(rt, words, mind, desk)?;
+        } else {
+            desk.reader.push(*c);
+            desk.begun = true;
+        }
     }
-    reader.push(c);
-    Ok(true)
+    Ok(())
 }
 
 // Answers every line to the end of standard input; the last one need not be ended.
-pub fn serve(rt: &HostRuntime) -> io::Result<()> {
-    let mut reader = Reader::new();
-    let mut begun = false;
-    each_piece(&mut rt.stdin(), |piece| {
-        for c in piece {
-            begun = take(rt, &mut reader, *c)?;
-        }
-        Ok(())
-    })?;
-    if begun {
-        reply(rt, &mut reader)?;
+pub fn serve(rt: &HostRuntime, words: &mut Filed, mind: &mut Mind) -> Result<(), Trouble> {
+    let mut desk = Desk {
+        reader: Reader::new(),
+        begun: false,
+        reply: Reply::new(),
+        text: [0; TEXT],
+    };
+    // Why it stopped, where that is no error of reading: `each_piece` hands on none but those, and any stops it.
+    let mut fed = Ok(());
+    let read = each_piece(&mut rt.stdin(), |piece| {
+        fed = feed(rt, words, mind, &mut desk, piece);
+        fed.map_err(|_| io::Error::from(ErrorKind::Other))
+    });
+    fed?;
+    read.map_err(Trouble::Lines)?;
+    if desk.begun {
+        reply(rt, words, mind, &mut desk)?;
     }
     Ok(())
 }
