@@ -18,6 +18,28 @@ pub struct Agent {
     ghost few: { vec_len orders ≤ 65535 },
 }
 
+impl Agent {
+    pub fn head(&self) -> Head
+        ensures { result ≡ self.now.head }
+    {
+        self.head
+    }
+
+    // What was ordered last.
+    pub fn orders(&self) -> &[Order]
+        ensures { result.now ≡ self.now.orders.items }
+    {
+        self.orders.as_slice()
+    }
+
+    // What runs.
+    pub fn seens(&self) -> &[Seen]
+        ensures { result.now ≡ self.now.seens.items }
+    {
+        self.seens.as_slice()
+    }
+}
+
 // Why a report is not sent.
 #[derive(Clone, Copy, Debug, PartialEq, Eq)]
 pub enum Unsent {

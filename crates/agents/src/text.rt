@@ -91,7 +91,7 @@ pub fn bytes_of(heap: Global, text: &[u8]) -> Result<Vec<u8>, Unhexed>
 }
 
 // A number in decimal digits and nothing else.
-fn decimal(text: &[u8]) -> Option<u64>
+pub fn decimal(text: &[u8]) -> Option<u64>
     ensures { number_in result ≡ decimal_on garbled text.now }
 {
     let mut number = None;

@@ -1,0 +1,10 @@
+// A herd and its machines in memory, and what a script makes of them.
+//
+// Nothing of what a herd or an agent does is written here again: each call goes by the function that `herd` calls for each line, over kept
+// words with a fuse, and each move of a machine is one of the agent's moves.
+#![tactic(auto)]
+
+pub mod herd;
+pub mod letter;
+pub mod machines;
+pub mod post;
