@@ -77,22 +77,19 @@ fn sweep_rests(w: &mut Writer, call: &[String], again: Again) {
 
 /// Each try has as much to store: where that is more than a script has room for, some are left out, others for each seed.
 fn sweep_whole(w: &mut Writer, call: &[String], again: Again) {
+    turn(w);
     let all = w.stores_of(call);
-    let stride = 1 + all / 20;
+    let stride = 1 + all / 16;
     let mut stores = w.below(stride);
-    while stores < all && failed(w, call, stores) && w.long() < LINES {
+    while failed(w, call, stores) && w.long() < LINES {
         look(w);
         again(w);
         turn(w);
-        stores += stride;
-    }
-    let all = w.stores_of(call);
-    for stores in [all.saturating_sub(1), all] {
-        if !failed(w, call, stores) {
-            break;
-        }
-        again(w);
-        turn(w);
+        stores = match stores + stride {
+            next if next < all => next,
+            _ if stores + 1 < all => all - 1,
+            _ => all,
+        };
     }
 }
 
