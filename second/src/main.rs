@@ -7,6 +7,8 @@ mod calls;
 #[cfg(test)]
 mod cases;
 mod check;
+#[cfg(test)]
+mod darkness;
 mod generate;
 mod herd;
 mod kept;
