@@ -1,0 +1,63 @@
+//! The herd a second time: plays scripts, and writes them.
+
+mod acts;
+mod agent;
+mod bytes;
+mod calls;
+#[cfg(test)]
+mod cases;
+mod check;
+#[cfg(test)]
+mod darkness;
+mod generate;
+mod herd;
+mod kept;
+mod kinds;
+mod lines;
+mod play;
+mod rows;
+mod rules;
+mod script;
+mod show;
+mod sweeps;
+
+use std::io::{self, Read, Write};
+use std::process::ExitCode;
+
+fn main() -> ExitCode {
+    let words: Vec<String> = std::env::args().skip(1).collect();
+    let words: Vec<&str> = words.iter().map(String::as_str).collect();
+    match words[..] {
+        ["play"] => play(),
+        ["generate", seed] => generate(seed),
+        _ => usage(),
+    }
+    .unwrap_or(ExitCode::FAILURE)
+}
+
+fn play() -> io::Result<ExitCode> {
+    let mut script = Vec::new();
+    io::stdin().read_to_end(&mut script)?;
+    let (out, well) = play::play(&script);
+    let mut text = out.join("\n");
+    text.push('\n');
+    io::stdout().write_all(text.as_bytes())?;
+    Ok(if well {
+        ExitCode::SUCCESS
+    } else {
+        ExitCode::FAILURE
+    })
+}
+
+fn generate(seed: &str) -> io::Result<ExitCode> {
+    let Ok(seed) = seed.parse() else {
+        return usage();
+    };
+    io::stdout().write_all(generate::generate(seed).as_bytes())?;
+    Ok(ExitCode::SUCCESS)
+}
+
+fn usage() -> io::Result<ExitCode> {
+    eprintln!("usage: second play <SCRIPT, or second generate SEED");
+    Ok(ExitCode::from(2))
+}
