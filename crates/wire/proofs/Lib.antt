@@ -1,0 +1,4 @@
+pub mod Again
+pub mod Lengths
+pub mod Pushing
+pub mod Short

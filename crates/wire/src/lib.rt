@@ -1,0 +1,7 @@
+// Calls and answers as bytes for those who have a heap, tools and agents: writing a call, reading an answer.
+#![tactic(auto)]
+
+pub mod call;
+pub mod frame;
+pub mod push;
+pub mod unwritten;
