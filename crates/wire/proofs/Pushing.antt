@@ -4,7 +4,7 @@ use Rattle.std.proofs.Common.{◌≡◌, ℕ, suc, ◌/◌, ◌<◌, eqb, [], �
 use mir.Val.{bool_byte}
 use Rattle.std.specs.Int.Digits.{AllBelowBase}
 use Rattle.std.proofs.lemmas.List.{take_at, drop_at, take-append-le, get_or_append_left}
-use Rattle.model.specs.Wire.{Bytes, bytes_of, value_of, field, byte_at, flag_of, seens_in, seen_bytes}
+use Rattle.model.specs.Wire.{Bytes, bytes_of, value_of, flag_of, seens_in, seen_bytes}
 use Rattle.calls.specs.Meaning.{seens_of}
 use Rattle.octets.proofs.Numbers.{length_take_under, bytes_of_value}
 use Rattle.lines.proofs.Writing.{flag_byte}

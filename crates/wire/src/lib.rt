@@ -3,5 +3,10 @@
 
 pub mod call;
 pub mod frame;
+pub mod orders;
 pub mod push;
+pub mod read;
+pub mod reply;
+pub mod shown;
+pub mod unread;
 pub mod unwritten;

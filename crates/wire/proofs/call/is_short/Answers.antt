@@ -1,4 +1,4 @@
-use Rattle.std.proofs.Common.{◌/◌, ◌&&◌, length, ltb, true, sym, ap, ◌∙◌}
+use Rattle.std.proofs.Common.{◌/◌, length}
 use Rattle.std.proofs.lemmas.Bool.{lt-ltb}
 use Rattle.calls.proofs.News.{seens_length}
 use Rattle.calls.proofs.Ranges.{length_tags}

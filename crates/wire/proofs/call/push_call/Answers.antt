@@ -1,4 +1,4 @@
-use Rattle.std.proofs.Common.{◌≡◌, true, ap, sym, ◌∙◌}
+use Rattle.std.proofs.Common.{ap, sym, ◌∙◌}
 use Rattle.calls.specs.Meaning.{call_of}
 use Rattle.wire.specs.Written.{is_short_lem}
 use Rattle.wire.proofs.Short.{few_set, few_added, few_reported}

@@ -1,4 +1,4 @@
-use Rattle.std.proofs.Common.{◌*◌, ◌/◌, length, [], ◌∷◌, ◌++◌, sym, ap, ◌∙◌, arith}
+use Rattle.std.proofs.Common.{◌/◌, length, [], ◌∷◌, ◌++◌, sym, ap, ◌∙◌, arith}
 use Rattle.calls.proofs.Ranges.{length_tags}
 use Rattle.octets.proofs.Numbers.{bytes_under}
 use Rattle.wire.proofs.Again.{tags_again}
