@@ -1,0 +1,33 @@
+-- What was read is written back: numbers, tags and tasks.
+-- Assumes nothing.
+use Rattle.std.proofs.Common.{◌≡◌, ℕ, zero, suc, ◌+◌, ◌*◌, ◌<◌, ◌≤◌, [], ◌∷◌, ◌++◌, length, get_or, take, drop, sym, refl, ap, ◌∙◌, arith, length-drop, drop-drop, take-add, drop-cons, add-one}
+use Rattle.std.proofs.lemmas.List.{take-append-drop}
+use Rattle.std.proofs.ByRecursion.{All-take}
+use Rattle.std.specs.Int.Digits.{AllBelowBase}
+use Rattle.model.specs.Wire.{Bytes, bytes_of, field, byte_at, tags_in_lem, tag_bytes}
+use Rattle.octets.proofs.Numbers.{length_take_under, bytes_of_value}
+
+pub below_drop : (n : ℕ) (bs : Bytes) → AllBelowBase 256 bs → AllBelowBase 256 (drop n bs)
+below_drop zero bs u = u
+below_drop (suc n) [] u = u
+below_drop (suc n) (b ∷ bs) u = below_drop n bs u.1
+
+-- a number at a place
+pub field_again : (w at : ℕ) (bs : Bytes) → at + w ≤ length bs → AllBelowBase 256 bs → bytes_of w (field w at bs) ≡ take w (drop at bs)
+field_again w at bs l u = bytes_of_value w (take w (drop at bs)) (length_take_under w (drop at bs) (let d = length-drop at bs in omega arith)) (All-take (λ d. d < 256) w (drop at bs) (below_drop at bs u))
+
+-- and what stands behind it
+pub field_on : (w at : ℕ) (bs : Bytes) → at + w ≤ length bs → AllBelowBase 256 bs → bytes_of w (field w at bs) ++ drop (at + w) bs ≡ drop at bs
+field_on w at bs l u = ap (λ (xs : Bytes). xs ++ drop (at + w) bs) (field_again w at bs l u) ∙ ap (λ (xs : Bytes). take w (drop at bs) ++ xs) (sym (drop-drop w at bs)) ∙ take-append-drop w (drop at bs)
+
+pub byte_on : (at : ℕ) (bs : Bytes) → at < length bs → byte_at at bs ∷ drop (at + 1) bs ≡ drop at bs
+byte_on at bs l = sym (drop-cons bs at 0 l ∙ ap (λ (n : ℕ). get_or bs at 0 ∷ drop n bs) (sym (add-one at)))
+
+pub tags_again : (n : ℕ) (bs : Bytes) → 4 * n ≤ length bs → AllBelowBase 256 bs → tag_bytes (tags_in_lem n bs) ≡ take (4 * n) bs
+unfolding tag_bytes tags_in_lem
+tags_again zero bs l u = refl
+tags_again (suc n) bs l u =
+    let e : 4 * suc n ≡ 4 + 4 * n = omega arith in let d = length-drop 4 bs in
+    let h = tags_again n (drop 4 bs) (omega (arith, l, d)) (below_drop 4 bs u) in
+    let f : bytes_of 4 (field 4 0 bs) ≡ take 4 bs = field_again 4 0 bs (omega (arith, l)) u in
+    rw (e, f, h) (sym (take-add 4 (4 * n) bs))

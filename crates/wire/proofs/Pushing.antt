@@ -1,0 +1,47 @@
+-- Bytes pushed one part behind the other.
+-- Assumes nothing.
+use Rattle.std.proofs.Common.{◌≡◌, ℕ, suc, ◌/◌, ◌<◌, eqb, [], ◌∷◌, ◌++◌, length, get_or, take, drop, sym, ap, ◌∙◌, subst, append_assoc, append-nil, arith, length-append}
+use mir.Val.{bool_byte}
+use Rattle.std.specs.Int.Digits.{AllBelowBase}
+use Rattle.std.proofs.lemmas.List.{take_at, drop_at, take-append-le, get_or_append_left}
+use Rattle.model.specs.Wire.{Bytes, bytes_of, value_of, flag_of, seens_in, seen_bytes}
+use Rattle.calls.specs.Meaning.{seens_of}
+use Rattle.octets.proofs.Numbers.{length_take_under, bytes_of_value}
+use Rattle.lines.proofs.Writing.{flag_byte}
+use Rattle.std.proofs.ByRecursion.{All-take}
+use Rattle.wire.proofs.Again.{below_drop}
+
+pub then : (old v w a b : Bytes) → v ≡ old ++ a → w ≡ v ++ b → w ≡ old ++ (a ++ b)
+then old v w a b p q = q ∙ ap (λ (xs : Bytes). xs ++ b) p ∙ append_assoc old a b
+
+pub report_pushed : (old v1 v2 v3 v4 v5 v6 d : Bytes) (k l n c m : ℕ) → v1 ≡ old ++ (7 ∷ []) → v2 ≡ v1 ++ bytes_of 2 k → v3 ≡ v2 ++ bytes_of 8 l → v4 ≡ v3 ++ bytes_of 8 n → v5 ≡ v4 ++ bytes_of 2 c → v6 ≡ v5 ++ d → m ≡ c →
+    v6 ≡ old ++ 7 ∷ (bytes_of 2 k ++ (bytes_of 8 l ++ (bytes_of 8 n ++ (bytes_of 2 m ++ d))))
+report_pushed old v1 v2 v3 v4 v5 v6 d k l n c m e1 e2 e3 e4 e5 e6 h = rw (e6, e5, e4, e3, e2, e1, h) (simp append_assoc)
+
+-- A REPORT'S TASKS
+
+-- the first task, and the others
+tasks_front : (piece left : Bytes) → length piece ≡ 9 → AllBelowBase 256 piece → seen_bytes (seens_of (piece ++ left)) ≡ take 8 piece ++ (flag_of (eqb (get_or piece 8 0) 1) ∷ seen_bytes (seens_of left))
+unfolding seen_bytes seens_in
+tasks_front piece left l u =
+    let a = length-append piece left in let n : length (piece ++ left) / 9 ≡ suc (length left / 9) = omega (arith, a, l) in
+    let e : take 8 (piece ++ left) ≡ take 8 piece = take-append-le 8 piece left (omega (arith, l)) in
+    let f : bytes_of 8 (value_of (take 8 piece)) ≡ take 8 piece = bytes_of_value 8 (take 8 piece) (length_take_under 8 piece (omega (arith, l))) (All-take (λ d. d < 256) 8 piece u) in
+    let g : get_or (piece ++ left) 8 0 ≡ get_or piece 8 0 = get_or_append_left piece left 0 8 (omega (arith, l)) in
+    let d : drop 9 (piece ++ left) ≡ left = drop_at piece left 9 l in rw (n, e, f, g, d)
+
+pub tasks_more : (acc v w piece rest left a all : Bytes) (x : ℕ) → v ≡ acc ++ a → w ≡ v ++ (x ∷ []) → a ≡ take 8 piece → x ≡ bool_byte (eqb (get_or piece 8 0) 1) → length piece ≡ 9 → AllBelowBase 256 rest → rest ≡ piece ++ left →
+    acc ++ seen_bytes (seens_of rest) ≡ all → w ++ seen_bytes (seens_of left) ≡ all
+tasks_more acc v w piece rest left a all x p q e f l u r inv =
+    rw (q, p, e, f, flag_byte (eqb (get_or piece 8 0) 1)) (append_assoc (acc ++ take 8 piece) (flag_of (eqb (get_or piece 8 0) 1) ∷ []) (seen_bytes (seens_of left)) ∙ append_assoc acc (take 8 piece) (flag_of (eqb (get_or piece 8 0) 1) ∷ seen_bytes (seens_of left))) ∙
+    ap (λ (xs : Bytes). acc ++ xs) (sym (ap (λ (xs : Bytes). seen_bytes (seens_of xs)) r ∙ tasks_front piece left l (front _ _ l (subst (AllBelowBase 256) r u)))) ∙ inv
+  where
+    front : (piece left : Bytes) → length piece ≡ 9 → AllBelowBase 256 (piece ++ left) → AllBelowBase 256 piece
+    front xs ys h w = subst (AllBelowBase 256) (take_at xs ys 9 h) (All-take (λ d. d < 256) 9 (xs ++ ys) w)
+
+pub tasks_left : (piece rest left : Bytes) → length piece ≡ 9 → AllBelowBase 256 rest → rest ≡ piece ++ left → AllBelowBase 256 left
+tasks_left piece rest left l u r = subst (AllBelowBase 256) (ap (drop 9) r ∙ drop_at piece left 9 l) (below_drop 9 rest u)
+
+pub tasks_done : (acc rest all : Bytes) → length rest < 9 → acc ++ seen_bytes (seens_of rest) ≡ all → acc ≡ all
+unfolding seen_bytes seens_in
+tasks_done acc rest all l inv = let z : length rest / 9 ≡ 0 = omega (arith, l) in sym (append-nil acc) ∙ ap (λ (n : ℕ). acc ++ seen_bytes (seens_in n rest)) (sym z) ∙ inv

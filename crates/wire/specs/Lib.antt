@@ -1,0 +1,4 @@
+pub mod Frames
+pub mod Written
+pub mod Replies
+pub mod Answering

@@ -1,0 +1,37 @@
+// Numbers, names and tags, each pushed behind the bytes that are there.
+ghost use Rattle.std.specs.Prelude.{◌≡◌, ◌/◌, ◌≤◌, ◌∷◌, ◌++◌, length, OnOk};
+ghost use Rattle.model.specs.Wire.{bytes_of, name_bytes, tag_bytes};
+ghost use Rattle.calls.specs.Meaning.{tags_of};
+
+use lines::write::put_number;
+use octets::field::Number;
+use std::alloc::AllocError;
+
+// A number of any width.
+pub fn push_number<T: Number>(bytes: &mut Vec<u8>, n: T) -> Result<(), AllocError>
+    ensures { OnOk result (bytes.new.items ≡ bytes.old.items ++ bytes_of T.WIDTH (T.num n)) }
+{
+    let mut room = [0; 8];
+    let end = put_number(&mut room, 0, n);
+    bytes.extend_from_slice(&room[..end])
+}
+
+// A name behind its length.
+pub(crate) fn push_name(bytes: &mut Vec<u8>, name: &[u8]) -> Result<(), AllocError>
+    requires { length name.now ≤ 255 }
+    ensures { OnOk result (bytes.new.items ≡ bytes.old.items ++ name_bytes name.now) }
+{
+    bytes.push(name.len() as u8)?;
+    bytes.extend_from_slice(name)
+}
+
+// Tags behind their number, four bytes each; a part of one behind the last is none.
+pub(crate) fn push_tags(bytes: &mut Vec<u8>, tags: &[u8]) -> Result<(), AllocError>
+    requires { length tags.now / 4 ≤ 255 }
+    ensures { OnOk result (bytes.new.items ≡ bytes.old.items ++ (length (tags_of tags.now) ∷ tag_bytes (tags_of tags.now))) }
+{
+    let count = tags.len() / 4;
+    bytes.push(count as u8)?;
+    bytes.extend_from_slice(&tags[..4 * count])?;
+    Ok(())
+}
