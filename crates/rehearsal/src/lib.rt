@@ -4,7 +4,18 @@
 // words with a fuse, and each move of a machine is one of the agent's moves.
 #![tactic(auto)]
 
+pub mod calling;
+pub mod check;
 pub mod herd;
 pub mod letter;
 pub mod machines;
+pub mod mosts;
+pub mod moving;
+pub mod play;
 pub mod post;
+pub mod rehearsal;
+pub mod rounds;
+pub mod said;
+pub mod show;
+pub mod stage;
+pub mod tally;

@@ -7,6 +7,15 @@ use std::alloc::Global;
 // So many are played at the most.
 const MOST: usize = 8;
 
+// All that runs there is ready.
+fn make_ready(agent: &mut Agent) {
+    for i in 0..agent.seens().len() {
+        if let Some(task) = agent.seens().get(i).map(|seen| seen.task) {
+            let _ = agent.mark(task, true);
+        }
+    }
+}
+
 #[derive(Drop)]
 pub struct Machines {
     agents: Vec<Agent>,
@@ -23,15 +32,57 @@ impl Machines {
         self.agents.as_slice()
     }
 
-    pub fn agents_mut(&mut self) -> &mut Vec<Agent> {
-        &mut self.agents
-    }
-
     // Where that machine stands, if it is played.
     pub fn place(&self, machine: MachineId) -> Option<usize> {
         self.agents
             .iter()
             .position(|agent| agent.head().machine == machine)
+    }
+
+    // That machine's agent, if it is played.
+    pub fn agent(&self, machine: MachineId) -> Option<&Agent> {
+        self.agents
+            .iter()
+            .find(|agent| agent.head().machine == machine)
+    }
+
+    pub fn agent_mut(&mut self, machine: MachineId) -> Option<&mut Agent> {
+        let place = self.place(machine)?;
+        self.agents.get_mut(place)
+    }
+
+    pub fn at(&mut self, place: usize) -> Option<&mut Agent> {
+        self.agents.get_mut(place)
+    }
+
+    pub fn agents_mut(&mut self) -> &mut [Agent] {
+        self.agents.as_mut_slice()
+    }
+
+    // How many tasks really run.
+    pub fn count_running(&self) -> usize {
+        let mut count = 0usize;
+        for agent in &self.agents {
+            count = count.saturating_add(agent.seens().len());
+        }
+        count
+    }
+
+    // How many of them are ready.
+    pub fn count_ready(&self) -> usize {
+        let mut count = 0usize;
+        for agent in &self.agents {
+            let ready = agent.seens().iter().filter(|seen| seen.ready).count();
+            count = count.saturating_add(ready);
+        }
+        count
+    }
+
+    // All that runs is ready.
+    pub fn ready_all(&mut self) {
+        for agent in self.agents.iter_mut() {
+            make_ready(agent);
+        }
     }
 
     // Where that machine stands: played from here on, if it wasn't.
