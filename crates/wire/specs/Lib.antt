@@ -2,3 +2,4 @@ pub mod Frames
 pub mod Written
 pub mod Replies
 pub mod Answering
+pub mod Fits
