@@ -1,14 +1,14 @@
 -- Answers, read and written as the same bytes.
 -- Assumes nothing.
-use Rattle.std.proofs.Common.{◌≡◌, ℕ, zero, suc, ◌+◌, ◌*◌, ◌<◌, ◌≤◌, true, false, ◌&&◌, ◌⊎◌, inl, inr, eqb, leb, [], ◌∷◌, ◌++◌, length, drop, sym, refl, ap, ◌∙◌, subst, append_assoc, arith, length-drop, drop-drop, get_or-drop, leb-true}
+use Rattle.std.proofs.Common.{◌≡◌, ℕ, zero, suc, ◌+◌, ◌*◌, ◌<◌, ◌≤◌, true, ◌&&◌, inl, inr, eqb, leb, [], ◌∷◌, ◌++◌, length, drop, sym, refl, ap, ◌∙◌, subst, arith, length-drop, drop-drop, get_or-drop, leb-true}
 use Rattle.std.specs.Int.Digits.{AllBelowBase}
 use Rattle.std.proofs.lemmas.Bool.{and_parts, eqb-true, lt-ltb, le-leb}
 use Rattle.model.specs.Lists.{every}
 use Rattle.model.specs.Calls.{small}
-use Rattle.model.specs.Wire.{Bytes, Read, garbled, meant, bytes_of, field, byte_at, tags_in_lem, spec_in_lem, spec_bytes, order_bytes, phase_of, line_bytes, Answer, Refused, Done, Runs, Shown, answer_bytes}
-use Rattle.model.specs.Answers.{tags_at, order_width, order_in, is_order_in, orders_in_lem, are_orders_in, phase_in, lines_in, phases_in, read_refused, read_done, read_runs, read_shown, read_answer_kind, read_answer_lem, long, spec_fits, order_fits}
+use Rattle.model.specs.Wire.{Bytes, Read, garbled, meant, bytes_of, field, byte_at, tags_in_lem, spec_in_lem, spec_bytes, order_bytes, phase_of, line_bytes, Answer, Runs, Shown, answer_bytes}
+use Rattle.model.specs.Answers.{tags_at, order_width, order_in, is_order_in, orders_in_lem, are_orders_in, phase_in, lines_in, phases_in, read_refused, read_done, read_runs, read_shown, read_answer_kind, read_answer_lem, order_fits}
 use Rattle.calls.proofs.Ranges.{length_tags}
-use Rattle.wire.specs.Fits.{brief, spec_numbers, line_fits, answer_fits, AnswersAgain, NoOtherAnswers}
+use Rattle.wire.specs.Fits.{line_fits, answer_fits, AnswersAgain, NoOtherAnswers}
 use Rattle.wire.proofs.Again.{below_drop, field_to, field_lt, byte_to, byte_small}
 use Rattle.wire.proofs.CallsAgain.{let_through, either, not_garbled}
 use Rattle.wire.proofs.Likeness.{spec_in_small, spec_again}

@@ -1,6 +1,6 @@
 -- Answers, written and read back.
 -- Assumes nothing.
-use Rattle.std.proofs.Common.{◌≡◌, ℕ, ◌+◌, ◌*◌, ◌≤◌, Bool, true, false, cond, ◌&&◌, eqb, ltb, leb, List, [], ◌∷◌, ◌++◌, length, drop, sym, refl, ap, ◌∙◌, arith, length-append, drop-drop, ltb-true, leb-true}
+use Rattle.std.proofs.Common.{◌≡◌, ℕ, ◌+◌, ◌*◌, ◌≤◌, Bool, true, false, cond, ◌&&◌, ltb, leb, List, [], ◌∷◌, ◌++◌, length, drop, sym, refl, ap, ◌∙◌, arith, length-append, drop-drop, ltb-true, leb-true}
 use Rattle.std.proofs.lemmas.Bool.{and_parts, eq-eqb, le-leb, true≢false}
 use Rattle.model.specs.Lists.{every}
 use Rattle.model.specs.State.{Phase, Waiting, Told, Ready, Ending, Spec}

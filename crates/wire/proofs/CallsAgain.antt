@@ -1,16 +1,16 @@
 -- Calls, read and written as the same bytes.
 -- Assumes nothing.
-use Rattle.std.proofs.Common.{◌≡◌, ℕ, zero, suc, ◌+◌, ◌*◌, ◌<◌, ◌≤◌, Bool, true, false, cond, ◌&&◌, ◌⊎◌, inl, inr, eqb, leb, ltb, [], ◌∷◌, ◌++◌, length, take, drop, sym, refl, ap, ◌∙◌, subst, append_assoc, append-nil, arith, length-drop, drop-drop, get_or-drop, leb-true}
+use Rattle.std.proofs.Common.{◌≡◌, ℕ, zero, suc, ◌+◌, ◌*◌, ◌<◌, ◌≤◌, Bool, true, false, cond, ◌&&◌, ◌⊎◌, inl, inr, eqb, leb, ltb, [], ◌∷◌, ◌++◌, length, take, drop, sym, refl, ap, ◌∙◌, subst, append-nil, arith, length-drop, drop-drop, get_or-drop, leb-true}
 use Rattle.std.specs.Int.Digits.{AllBelowBase}
 use Rattle.std.proofs.lemmas.List.{take-append-drop, drop_all}
-use Rattle.std.proofs.lemmas.Bool.{and_parts, eqb-true, lt-ltb, true≢false}
+use Rattle.std.proofs.lemmas.Bool.{and_parts, eqb-true, lt-ltb}
 use Rattle.model.specs.Lists.{every}
-use Rattle.model.specs.Calls.{Seen, Call, SetJob, EndJob, AddMachine, Close, Reopen, Forget, Report, Tick, Show}
-use Rattle.model.specs.Wire.{Bytes, Read, garbled, meant, bytes_of, field, byte_at, flag_of, tags_in_lem, seens_in, flags_in, spec_in_lem, read_name, read_machine, read_set_of, read_set_lem, read_add_lem, read_report_lem, read_tick, read_kind_lem, read_call, tag_bytes, seen_bytes, spec_bytes, name_bytes, call_bytes}
+use Rattle.model.specs.Calls.{Call, SetJob, EndJob, AddMachine, Close, Reopen, Forget, Report, Show}
+use Rattle.model.specs.Wire.{Bytes, Read, garbled, meant, bytes_of, field, byte_at, tags_in_lem, seens_in, flags_in, spec_in_lem, read_name, read_machine, read_set_lem, read_add_lem, read_report_lem, read_tick, read_kind_lem, read_call, tag_bytes, seen_bytes, spec_bytes, name_bytes, call_bytes}
 use Rattle.octets.proofs.Numbers.{length_take_under}
 use Rattle.calls.proofs.News.{seens_length}
 use Rattle.calls.proofs.Ranges.{length_tags}
-use Rattle.wire.specs.Fits.{brief, spec_numbers, long_id, call_fits, CallsAgain, NoOtherCalls}
+use Rattle.wire.specs.Fits.{brief, long_id, call_fits, CallsAgain, NoOtherCalls}
 use Rattle.wire.proofs.Again.{below_drop, field_to, field_last, field_lt, byte_to, byte_small}
 use Rattle.wire.proofs.Likeness.{flag_again, tags_on, tags_small, spec_in_small, spec_again}
 
@@ -149,7 +149,7 @@ seens_again (suc n) bs l f u =
     let h = seens_again n (drop 9 bs) (let d = length-drop 9 bs in omega arith) p.1 (below_drop 9 bs u) in
     rw (h, flag_again (byte_at 8 bs) (leb-true _ _ p.0), byte_to 8 9 bs refl (omega arith)) (field_to 8 0 8 bs refl (omega arith) u)
 
-seens_long : (n : ℕ) (bs : Bytes) → AllBelowBase 256 bs → every long_id (seens_in n bs) ≡ true
+pub seens_long : (n : ℕ) (bs : Bytes) → AllBelowBase 256 bs → every long_id (seens_in n bs) ≡ true
 unfolding seens_in every
 seens_long zero bs u = refl
 seens_long (suc n) bs u = rw (lt-ltb (field 8 0 bs) 18446744073709551616 (field_lt 8 0 bs u)) (seens_long n (drop 9 bs) (below_drop 9 bs u))

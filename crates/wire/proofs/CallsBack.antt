@@ -1,19 +1,19 @@
 -- Calls, written and read back.
 -- Assumes nothing.
-use Rattle.std.proofs.Common.{◌≡◌, ℕ, zero, suc, ◌+◌, ◌*◌, ◌^◌, ◌<◌, ◌≤◌, Bool, true, ◌&&◌, eqb, ltb, List, [], ◌∷◌, ◌++◌, length, take, drop, sym, refl, ap, ◌∙◌, append_assoc, append-nil, arith, length-append, drop-drop, ltb-true}
+use Rattle.std.proofs.Common.{◌≡◌, ℕ, ◌+◌, ◌*◌, ◌≤◌, true, ◌&&◌, List, [], ◌∷◌, ◌++◌, length, take, drop, sym, refl, ap, ◌∙◌, append-nil, arith, length-append, drop-drop, ltb-true}
 use Rattle.std.proofs.lemmas.List.{take_at, drop_at}
 use Rattle.std.proofs.lemmas.Bool.{and_parts, eq-eqb, le-leb}
 use Rattle.model.specs.Lists.{every}
 use Rattle.model.specs.State.{Name, Spec}
 use Rattle.model.specs.Calls.{Seen, Call, SetJob, EndJob, AddMachine, Close, Reopen, Forget, Report, Tick, Show, small}
-use Rattle.model.specs.Wire.{Bytes, Read, meant, bytes_of, field, byte_at, flag_of, tags_in_lem, seens_in, flags_in, spec_in_lem, read_name, read_machine, read_set_of, read_set_lem, read_add_lem, read_report_lem, read_tick, tag_bytes, seen_bytes, spec_bytes}
+use Rattle.model.specs.Wire.{Bytes, meant, bytes_of, field, byte_at, flag_of, tags_in_lem, seens_in, flags_in, spec_in_lem, read_name, read_machine, read_set_of, read_set_lem, read_add_lem, read_report_lem, read_tick, tag_bytes, seen_bytes, spec_bytes}
 use Rattle.model.specs.Answers.{long}
 use Rattle.octets.proofs.Numbers.{length_bytes_of}
 use Rattle.lines.proofs.Writing.{length_tag_bytes}
-use Rattle.wire.specs.Written.{is_short_lem}
+use Rattle.wire.specs.Short.{is_short_lem}
 use Rattle.wire.specs.Fits.{brief, spec_numbers, long_id, numbers_fit, CallsBack}
 use Rattle.wire.proofs.Lengths.{length_seen_bytes}
-use Rattle.wire.proofs.Fields.{field_front, field_whole, field_at, drop_front, drop_next, byte_at_lem, length_front}
+use Rattle.wire.proofs.Fields.{field_front, field_whole, field_at, drop_front, drop_next, byte_at_lem}
 use Rattle.wire.proofs.Likeness.{flag_small, flag_back, tags_back, spec_on, spec_on_lem, front12, behind, spec_back}
 
 -- A NAME, A MACHINE, A TIME

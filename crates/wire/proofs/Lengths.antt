@@ -1,12 +1,12 @@
 -- How long calls are.
 -- Assumes nothing.
-use Rattle.std.proofs.Common.{◌≡◌, ◌+◌, ◌*◌, ◌<◌, true, ltb, List, [], ◌∷◌, length, refl, ◌∙◌, arith, length-append, ltb-true}
+use Rattle.std.proofs.Common.{◌≡◌, ◌*◌, ◌<◌, true, ltb, List, [], ◌∷◌, length, refl, ◌∙◌, arith, length-append, ltb-true}
 use Rattle.std.proofs.lemmas.Bool.{and_parts}
 use Rattle.model.specs.Calls.{Seen, Call, SetJob, EndJob, AddMachine, Close, Reopen, Forget, Report, Tick, Show}
-use Rattle.model.specs.Wire.{bytes_of, flag_of, seen_bytes, spec_bytes, call_bytes}
+use Rattle.model.specs.Wire.{bytes_of, flag_of, seen_bytes, call_bytes}
 use Rattle.octets.proofs.Numbers.{length_bytes_of}
 use Rattle.lines.proofs.Writing.{length_tag_bytes}
-use Rattle.wire.specs.Written.{is_short_lem}
+use Rattle.wire.specs.Short.{is_short_lem}
 
 pub length_seen_bytes : (xs : List Seen) → length (seen_bytes xs) ≡ 9 * length xs
 unfolding seen_bytes

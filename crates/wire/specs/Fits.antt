@@ -7,7 +7,7 @@ use Rattle.model.specs.State.{Spec}
 use Rattle.model.specs.Calls.{Seen, Call, SetJob, EndJob, AddMachine, Close, Reopen, Forget, Report, Tick, Show, Line, small}
 use Rattle.model.specs.Wire.{Bytes, garbled, meant, read_call, call_bytes, Answer, Refused, Done, Runs, Shown, answer_bytes}
 use Rattle.model.specs.Answers.{long, runs_fit_lem, read_answer_lem}
-use Rattle.wire.specs.Written.{is_short_lem}
+use Rattle.wire.specs.Short.{is_short_lem}
 
 -- CALLS
 
