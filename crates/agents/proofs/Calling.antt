@@ -10,9 +10,10 @@ use Rattle.std.specs.declared.alloc.AllocError.{AllocError}
 use Rattle.model.specs.Calls as m
 use Rattle.model.specs.Lists.{some, find}
 use Rattle.model.specs.World.{is_order, is_seen}
-use Rattle.agents.specs.Memory.{deed_of, deeds_of, orders_of, seens_of, stop, start}
+use Rattle.agents.specs.Memory.{deed_of, deeds_of, seens_of, stop, start}
+use Rattle.wire.specs.Replies.{orders_of}
 use Rattle.agents.specs.Moves.{Found, deeds_for, stops_for, starts_for}
-use Rattle.agents.specs.declared.order.Order.{Order}
+use Rattle.wire.specs.declared.reply.Order.{Order}
 use Rattle.agents.specs.declared.order.Seen.{Seen}
 use Rattle.agents.specs.declared.order.Deed.{Deed}
 use Rattle.agents.specs.declared.order.Deed.TheVariants.{Stop, Start}

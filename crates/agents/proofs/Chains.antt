@@ -12,9 +12,10 @@ use Rattle.std.specs.declared.alloc.AllocError.{AllocError}
 use Rattle.model.specs.Calls as m
 use Rattle.model.specs.Lists.{some, keep, find}
 use Rattle.model.specs.World.{is_order, is_seen}
-use Rattle.agents.specs.Memory.{order_of, orders_of, seen_of, seens_of}
+use Rattle.agents.specs.Memory.{seen_of, seens_of}
+use Rattle.wire.specs.Replies.{order_of, orders_of}
 use Rattle.agents.specs.Moves.{Found, PlacedAt, kept}
-use Rattle.agents.specs.declared.order.Order.{Order}
+use Rattle.wire.specs.declared.reply.Order.{Order}
 use Rattle.agents.specs.declared.order.Seen.{Seen}
 
 pub some_as : {X Y : Type 0} (f : X → Y) (p : Y → Bool) (xs : List X) → list_any (λ x. p (f x)) xs ≡ some p (map f xs)

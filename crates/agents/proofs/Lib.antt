@@ -1,14 +1,10 @@
 pub mod Chains
 pub mod Calling
 pub mod Lists
-pub mod Orders
 pub mod Moving
 pub mod Reports
 pub mod Around
 pub mod Texts
-pub mod Fields
 pub mod Lives
-pub mod Answered
-pub mod Written
 pub mod Reaching
 pub mod Carrying

@@ -1,12 +1,8 @@
 -- Lists that loops make.
 -- Assumes nothing.
-use Rattle.std.proofs.Common.{◌≡◌, ℕ, ◌+◌, ◌<◌, ◌≤◌, Bool, true, cond, List, [], ◌∷◌, ◌++◌, map, length, get_or, take, sym, refl, ap, ◌∙◌, append_assoc, append-nil}
+use Rattle.std.proofs.Common.{◌≡◌, ℕ, ◌+◌, ◌<◌, ◌≤◌, List, [], ◌∷◌, ◌++◌, map, length, get_or, take, sym, refl, ap, ◌∙◌, append_assoc, append-nil}
 use Rattle.std.specs.List.{flat_map}
 use Rattle.std.proofs.lemmas.List.{map_push, take_more, take_all}
-
--- what a push that went well leaves
-pub pushed : {X Y : Type 0} (f : X → Y) (b : Bool) (ys xs : List X) (x : X) → ys ≡ cond b (xs ++ x ∷ []) xs → b ≡ true → map f ys ≡ map f xs ++ (f x ∷ [])
-pushed f b ys xs x e t = ap (map f) (e ∙ ap (λ (v : Bool). cond v (xs ++ x ∷ []) xs) t) ∙ map_push f xs x
 
 -- A LOOP THAT GATHERS
 

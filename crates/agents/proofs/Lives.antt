@@ -7,7 +7,7 @@ use Rattle.std.proofs.lemmas.Bool.{eq-eqb, ne_eqb, lt-ltb, le-leb, eqb-true}
 use Rattle.model.specs.Wire.{Bytes, Read, garbled, meant, bytes_of, value_of, field}
 use Rattle.octets.proofs.Numbers.{length_bytes_of}
 use Rattle.agents.specs.LifeFile.{last_life, life_bytes_lem, read_life_lem, Fits, LifeBack, TornIsNone, MixedIsEither}
-use Rattle.agents.proofs.Fields.{field_front, field_at, drop_front}
+use Rattle.wire.proofs.Fields.{field_front, field_at, drop_front}
 
 long : (n : ℕ) → length (life_bytes_lem n) ≡ 16
 long n = let a = length-append (bytes_of 8 n) (bytes_of 8 n) in let b = length_bytes_of 8 n in omega arith

@@ -5,9 +5,9 @@ use Rattle.std.proofs.lemmas.List.{map_push}
 use Rattle.model.specs.Lists.{some}
 use Rattle.model.specs.Calls.{Seen, Order}
 use Rattle.model.specs.World.{is_seen}
-use Rattle.agents.specs.Memory.{order_of, orders_of}
+use Rattle.wire.specs.Replies.{order_of, orders_of}
 use Rattle.agents.specs.Moves.{started_one, started}
-use Rattle.agents.specs.declared.order.Order as code
+use Rattle.wire.specs.declared.reply.Order as code
 
 -- the last order is started first
 pub started_push : (os : List Order) (o : Order) (xs : List Seen) → started (os ++ (o ∷ [])) xs ≡ started os (started_one o.id xs)

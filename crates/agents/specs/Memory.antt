@@ -2,20 +2,13 @@
 -- Assumes nothing.
 use Rattle.std.specs.Prelude.{ℕ, List, map}
 use Rattle.model.specs.Calls as m
-use Rattle.jobs.specs.Values.{spec_of}
-use Rattle.agents.specs.declared.order.Order.{Order}
+use Rattle.wire.specs.Replies.{order_of}
 use Rattle.agents.specs.declared.order.Seen.{Seen}
 use Rattle.agents.specs.declared.order.Deed as code
 use Rattle.agents.specs.declared.order.Deed.TheVariants.{Stop, Start}
 
-abbrev pub order_of : Order → m.Order
-order_of o = record { id = o.task.0; spec = spec_of o.spec }
-
 abbrev pub seen_of : Seen → m.Seen
 seen_of x = record { id = x.task.0; ready = x.ready }
-
-abbrev pub orders_of : List Order → List m.Order
-orders_of os = map order_of os
 
 abbrev pub seens_of : List Seen → List m.Seen
 seens_of xs = map seen_of xs

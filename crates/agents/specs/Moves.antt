@@ -5,8 +5,9 @@ use Rattle.std.specs.List.{flat_map}
 use Rattle.model.specs.Lists.{some, keep, find}
 use Rattle.model.specs.Calls.{Seen, Order}
 use Rattle.model.specs.World.{is_order, is_seen}
-use Rattle.agents.specs.Memory.{order_of, seens_of, Deed, stop, start}
-use Rattle.agents.specs.declared.order.Order as code
+use Rattle.agents.specs.Memory.{seens_of, Deed, stop, start}
+use Rattle.wire.specs.Replies.{order_of}
+use Rattle.wire.specs.declared.reply.Order as code
 use Rattle.agents.specs.declared.order.Seen as codeSeen
 
 -- of what runs, what is ordered

@@ -8,7 +8,8 @@ use Rattle.model.specs.Calls.{Seen, Order, Report}
 use Rattle.model.specs.Wire.{Bytes, Read, garbled, meant, call_bytes, Answer, Refused, Done, Runs, Shown}
 use Rattle.model.specs.Lines.{framed}
 use Rattle.model.specs.World as w
-use Rattle.agents.specs.Memory.{orders_of, seens_of, deeds_of}
+use Rattle.agents.specs.Memory.{seens_of, deeds_of}
+use Rattle.wire.specs.Replies.{orders_of}
 use Rattle.agents.specs.Moves.{started, deeds_for}
 use Rattle.agents.specs.declared.order.Deed.{Deed}
 use Rattle.agents.specs.declared.agent.Agent.{Agent}

@@ -1,13 +1,16 @@
 // An agent's memory.
 ghost use Rattle.std.specs.Prelude.{◌≡◌, ◌≤◌, vec_len};
+ghost use Rattle.agents.specs.Answering.{passed_for};
 ghost use Rattle.agents.specs.declared.agent.Passed.TheVariants as passed;
 ghost use Rattle.agents.specs.declared.agent.Unsent.TheVariants as unsent;
 
 use crate::head::Head;
-use crate::order::{Order, Seen};
+use crate::order::Seen;
 use jobs::ids::{LAST, TaskId};
-use std::alloc::{AllocError, AllocFailed};
+use std::alloc::AllocError;
 use std::fmt;
+use wire::reply::Order;
+use wire::unread::Unread;
 
 // What was ordered last, and what runs.
 #[derive(Drop)]
@@ -86,11 +89,14 @@ impl From<AllocError> for Passed {
     }
 }
 
-impl<T: Drop> From<AllocFailed<T>> for Passed {
-    ghost from_gives = { λ _ e. e ≡ passed.NoMemory };
+impl From<Unread> for Passed {
+    ghost from_gives = { λ u e. e ≡ passed_for u };
 
-    fn from(_e: AllocFailed<T>) -> Passed {
-        Passed::NoMemory
+    fn from(why: Unread) -> Passed {
+        match why {
+            Unread::NoAnswer => Passed::NoAnswer,
+            Unread::NoMemory => Passed::NoMemory,
+        }
     }
 }
 

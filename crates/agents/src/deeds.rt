@@ -1,11 +1,13 @@
 // What is stopped and started, from what ran before and what runs after.
 ghost use Rattle.std.specs.Prelude.{◌≡◌, IfOk};
-ghost use Rattle.agents.specs.Memory.{deeds_of, orders_of, seens_of};
+ghost use Rattle.agents.specs.Memory.{deeds_of, seens_of};
+ghost use Rattle.wire.specs.Replies.{orders_of};
 ghost use Rattle.agents.specs.Moves.{deeds_for};
 
-use crate::order::{Deed, Order, Seen};
+use crate::order::{Deed, Seen};
 use crate::running::{order_for, runs};
 use std::alloc::{AllocError, Global};
+use wire::reply::Order;
 
 // What is done: all that is stopped, then all that is started.
 pub fn deeds_between(

@@ -2,7 +2,7 @@
 ghost use Rattle.std.specs.Prelude.{◌≤◌, vec_len};
 
 use crate::head::Head;
-use crate::order::Order;
+use wire::reply::Order;
 
 // An answer to a report: the report's head, and all that is to run.
 #[derive(Drop)]

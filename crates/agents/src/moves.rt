@@ -10,12 +10,13 @@ use crate::agent::{Agent, NotRunning, Passed, Unsent};
 use crate::head::Head;
 use crate::heard::Run;
 use crate::order::{Deed, Seen};
-use crate::read::{read_answer, unframed};
+use crate::read::read_answer;
 use crate::report::report_bytes;
 use crate::running::place;
 use crate::turn::{Turn, obeyed, restarted};
 use jobs::ids::{LAST, Life, MachineId, TaskId};
 use std::alloc::{AllocError, Global};
+use wire::frame::unframed;
 
 impl Agent {
     // Come up: nothing is ordered, nothing runs.

@@ -1,14 +1,7 @@
-// What is ordered, what runs, and what is done about it.
+// What runs, and what is done about it and about what is ordered.
 use jobs::ids::TaskId;
-use jobs::spec::Spec;
 use std::fmt;
-
-// A task that is to run.
-#[derive(Clone, Copy)]
-pub struct Order {
-    pub task: TaskId,
-    pub spec: Spec,
-}
+use wire::reply::Order;
 
 // A task that runs, ready or not.
 #[derive(Clone, Copy)]

@@ -1,108 +1,28 @@
-// Answers from bytes.
-ghost use Rattle.std.specs.Prelude.{◌≡◌, ◌+◌, ◌*◌, ◌≤◌, false, length, MatchOption};
-ghost use Rattle.model.specs.Wire.{spec_in_lem};
-ghost use Rattle.model.specs.Answers.{is_order_in, read_answer_lem, read_runs};
-ghost use Rattle.model.specs.Lines.{call_in};
-ghost use Rattle.jobs.specs.Values.{spec_of};
-ghost use Rattle.agents.specs.Answering.{HeardAs, OrderRead, OrdersAs};
+// Answers to reports, from bytes.
+ghost use Rattle.model.specs.Answers.{read_answer_lem};
+ghost use Rattle.agents.specs.Answering.{HeardAs};
 
 use crate::agent::Passed;
 use crate::head::Head;
 use crate::heard::Run;
-use crate::order::Order;
-use jobs::ids::{Life, MachineId, ReportNumber, TaskId};
-use jobs::spec::Spec;
-use octets::field::{filled, number_at};
 use std::alloc::Global;
+use wire::read;
+use wire::reply::Reply;
 
-// A likeness with so many tags. (`as`, here and below: the proofs speak of the numbers themselves. `lines::read` reads the same fields,
-// but lends the tags, which may be too many there.)
-fn spec_in(bytes: &[u8], count: u8) -> Spec
-    requires few { count ≤ 8 }
-    requires whole { 14 + 4 * count ≤ length bytes.now }
-    ensures value { spec_of result ≡ spec_in_lem count bytes.now }
-    ensures count { result.count ≡ count }
-{
-    let end = 13 + 4 * count as usize;
-    Spec {
-        image: number_at(bytes, 0),
-        cpu: number_at(bytes, 4),
-        mem: number_at(bytes, 8),
-        apart: bytes[end] == 1,
-        count,
-        tags: filled(&bytes[13..end]),
-    }
-}
-
-// The order at the front.
-fn order_in(bytes: &[u8]) -> Option<Order>
-    ensures { MatchOption result (is_order_in bytes.now ≡ false) (λ o. OrderRead bytes.now o) }
-{
-    if bytes.len() < 22 {
-        return None;
-    }
-    let count = bytes[20];
-    if count > 8 || bytes.len() < 22 + 4 * count as usize || bytes[21 + 4 * count as usize] > 1 {
-        return None;
-    }
-    Some(Order {
-        task: TaskId(number_at(bytes, 0)),
-        spec: spec_in(&bytes[8..], count),
-    })
-}
-
-// So many orders, and nothing behind them.
-fn orders_in(heap: Global, bytes: &[u8], count: u16) -> Result<Vec<Order>, Passed>
-    ensures { OrdersAs count bytes.now result }
-{
-    let mut orders = Vec::new(heap);
-    let mut rest = bytes;
-    for _ in 0..count {
-        let order = order_in(rest).ok_or(Passed::NoAnswer)?;
-        rest = &rest[22 + 4 * order.spec.count as usize..];
-        orders.push(order)?;
-    }
-    if !rest.is_empty() {
-        return Err(Passed::NoAnswer);
-    }
-    Ok(orders)
-}
-
-// The part of an answer to a report behind its kind.
-fn read_run(heap: Global, rest: &[u8]) -> Result<Run, Passed>
-    ensures { HeardAs (read_runs rest.now) result }
-{
-    if rest.len() < 20 {
-        return Err(Passed::NoAnswer);
-    }
-    let orders = orders_in(heap, &rest[20..], number_at(rest, 18))?;
-    Ok(Run {
-        head: Head {
-            machine: MachineId(number_at(rest, 0)),
-            life: Life(number_at(rest, 2)),
-            number: ReportNumber(number_at(rest, 10)),
-        },
-        orders,
-    })
-}
-
-// What these bytes say: a refusal, or what is to run; no other answer comes to a report. (A match over bytes, by a rule of the project.)
+// What these bytes say: a refusal, or what is to run; no other answer comes to a report.
 pub fn read_answer(heap: Global, bytes: &[u8]) -> Result<Run, Passed>
     ensures { HeardAs (read_answer_lem bytes.now) result }
 {
-    match bytes.first() {
-        Some(0) if bytes.len() == 2 => Err(Passed::Refused(bytes[1])),
-        Some(2) => read_run(heap, &bytes[1..]),
-        _ => Err(Passed::NoAnswer),
+    match read::read_answer(heap, bytes)? {
+        Reply::Run(run) => Ok(Run {
+            head: Head {
+                machine: run.on.machine,
+                life: run.on.life,
+                number: run.on.number,
+            },
+            orders: run.orders,
+        }),
+        Reply::TurnedAway(number) => Err(Passed::Refused(number)),
+        Reply::Yes | Reply::Lines(_) => Err(Passed::NoAnswer),
     }
-}
-
-// The answer in a frame; no byte of one where the frame's length is not that of the rest.
-pub fn unframed(line: &[u8]) -> &[u8]
-    ensures { result.now ≡ call_in line.now }
-{
-    if line.len() < 8 || number_at::<u32>(line, 0) as usize + 4 != line.len() {
-        return &line[0..0];
-    }
-    &line[8..]
 }

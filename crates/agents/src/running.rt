@@ -4,12 +4,14 @@ ghost use Rattle.std.specs.List as list;
 ghost use Rattle.std.specs.Prelude.{◌≡◌, ◌==◌, IfOk, OnOk};
 ghost use Rattle.model.specs.Lists.{find, some};
 ghost use Rattle.model.specs.World.{is_order, is_ready_in, is_seen};
-ghost use Rattle.agents.specs.Memory.{orders_of, seens_of};
+ghost use Rattle.agents.specs.Memory.{seens_of};
+ghost use Rattle.wire.specs.Replies.{orders_of};
 ghost use Rattle.agents.specs.Moves.{Found, PlacedAt, kept, started, started_one};
 
-use crate::order::{Order, Seen};
+use crate::order::Seen;
 use jobs::ids::TaskId;
 use std::alloc::{AllocError, Global};
+use wire::reply::Order;
 
 fn is_ordered(orders: &[Order], task: TaskId) -> bool
     ensures { result ≡ some (is_order task.0) (orders_of orders.now) }

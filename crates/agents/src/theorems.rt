@@ -1,5 +1,4 @@
 // What is shown of agents, each on the contract of a small function.
-ghost use Rattle.model.specs.Answers.{FrameBack, NoOtherRuns, NoReportRuns, RunsBack};
 ghost use Rattle.agents.specs.Carried.{CarriedOut};
 ghost use Rattle.agents.specs.LifeFile.{LifeBack, MixedIsEither, TornIsNone};
 ghost use Rattle.agents.specs.Worlds.{AllMovesReach};
@@ -21,27 +20,6 @@ pub fn torn_is_none() -> u8
 // Of two writings, the front of one and the rest of the other say one of the two lives, or nothing.
 pub fn mixed_is_either() -> u8
     ensures { MixedIsEither }
-{
-    0
-}
-
-// No other answer is read as an answer to a report, and no report is.
-pub fn no_other_runs() -> u8
-    ensures { NoOtherRuns × NoReportRuns }
-{
-    0
-}
-
-// What was framed is unframed, and bears its tag.
-pub fn frame_back() -> u8
-    ensures { FrameBack }
-{
-    0
-}
-
-// An answer to a report is read as it was written.
-pub fn runs_back() -> u8
-    ensures { RunsBack }
 {
     0
 }

@@ -1,12 +1,14 @@
 // What runs next, and what is done for it.
 ghost use Rattle.std.specs.Prelude.{◌≡◌, IfOk};
-ghost use Rattle.agents.specs.Memory.{deeds_of, orders_of, seens_of};
+ghost use Rattle.agents.specs.Memory.{deeds_of, seens_of};
+ghost use Rattle.wire.specs.Replies.{orders_of};
 ghost use Rattle.agents.specs.Moves.{Turned, kept};
 
 use crate::deeds::deeds_between;
-use crate::order::{Deed, Order, Seen};
+use crate::order::{Deed, Seen};
 use crate::running::{keep_ordered, start_ordered};
 use std::alloc::{AllocError, Global};
+use wire::reply::Order;
 
 #[derive(Drop)]
 pub struct Turn {

@@ -1,7 +1,7 @@
 -- Numbers that stand one after the other in bytes.
 -- Assumes nothing.
 use Rattle.std.proofs.Common.{◌≡◌, ℕ, ◌+◌, ◌^◌, ◌<◌, ◌∷◌, ◌++◌, length, get_or, take, drop, sym, ap, ◌∙◌, arith, length-append, get_or-drop, drop-drop}
-use Rattle.std.proofs.lemmas.List.{take_at, drop_at}
+use Rattle.std.proofs.lemmas.List.{take_at, take_all, drop_at}
 use Rattle.model.specs.Wire.{Bytes, bytes_of, value_of, field, byte_at}
 use Rattle.octets.proofs.Numbers.{length_bytes_of, value_bytes_of}
 
@@ -21,6 +21,9 @@ drop_next w at m bs rest e = sym (drop-drop w at bs) ∙ ap (drop w) e ∙ drop_
 
 pub byte_at_lem : (at b : ℕ) (bs rest : Bytes) → drop at bs ≡ b ∷ rest → byte_at at bs ≡ b
 byte_at_lem at b bs rest e = sym (get_or-drop at bs 0 0 ∙ ap (λ (n : ℕ). get_or bs n 0) (omega arith)) ∙ ap (λ (xs : Bytes). get_or xs 0 0) e
+
+pub field_whole : (w m : ℕ) → m < 256 ^ w → field w 0 (bytes_of w m) ≡ m
+field_whole w m h = ap value_of (take_all w (bytes_of w m) (let l = length_bytes_of w m in omega arith)) ∙ value_bytes_of w m h
 
 pub length_front : (w m : ℕ) (bs : Bytes) → length (bytes_of w m ++ bs) ≡ w + length bs
 length_front w m bs = let a = length-append (bytes_of w m) bs in let b = length_bytes_of w m in omega arith

@@ -1,22 +1,18 @@
 -- How long calls are.
 -- Assumes nothing.
-use Rattle.std.proofs.Common.{◌≡◌, ◌+◌, ◌*◌, ◌<◌, true, ltb, List, [], ◌∷◌, length, refl, ◌∙◌, arith, length-append, ltb-true}
+use Rattle.std.proofs.Common.{◌≡◌, ◌*◌, ◌<◌, true, ltb, List, [], ◌∷◌, length, refl, ◌∙◌, arith, length-append, ltb-true}
 use Rattle.std.proofs.lemmas.Bool.{and_parts}
-use Rattle.model.specs.State.{Spec}
 use Rattle.model.specs.Calls.{Seen, Call, SetJob, EndJob, AddMachine, Close, Reopen, Forget, Report, Tick, Show}
-use Rattle.model.specs.Wire.{bytes_of, flag_of, seen_bytes, spec_bytes, call_bytes}
+use Rattle.model.specs.Wire.{bytes_of, flag_of, seen_bytes, call_bytes}
 use Rattle.octets.proofs.Numbers.{length_bytes_of}
 use Rattle.lines.proofs.Writing.{length_tag_bytes}
-use Rattle.wire.specs.Written.{is_short_lem}
+use Rattle.wire.specs.Short.{is_short_lem}
 
 pub length_seen_bytes : (xs : List Seen) → length (seen_bytes xs) ≡ 9 * length xs
 unfolding seen_bytes
 length_seen_bytes [] = refl
 length_seen_bytes (x ∷ xs) =
     let h = length_seen_bytes xs in let a = length-append (bytes_of 8 x.id) (flag_of x.ready ∷ seen_bytes xs) in let b = length_bytes_of 8 x.id in a ∙ omega arith
-
-pub length_spec_bytes : (a : Spec) → length (spec_bytes a) ≡ 14 + 4 * length a.tags
-length_spec_bytes a = simp (length-append, length_bytes_of, length_tag_bytes) (omega arith)
 
 -- no call that is short comes near the end of what a frame can say
 pub short_call : (c : Call) → is_short_lem c ≡ true → length (call_bytes c) < 600000

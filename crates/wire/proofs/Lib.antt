@@ -1,8 +1,14 @@
 pub mod Fields
+pub mod Likeness
 pub mod Lists
 pub mod Ordered
 pub mod Showing
 pub mod Again
 pub mod Lengths
+pub mod CallsBack
+pub mod CallsAgain
+pub mod AnswersBack
+pub mod AnswersAgain
+pub mod Framing
 pub mod Pushing
 pub mod Short

@@ -1,10 +1,15 @@
 -- Bytes pushed one part behind the other.
 -- Assumes nothing.
-use Rattle.std.proofs.Common.{◌≡◌, ℕ, suc, ◌/◌, ◌<◌, eqb, [], ◌∷◌, ◌++◌, length, get_or, take, drop, sym, ap, ◌∙◌, subst, append_assoc, append-nil, arith, length-append}
+use Rattle.std.proofs.Common.{◌≡◌, ℕ, suc, ◌/◌, ◌<◌, true, eqb, List, [], ◌∷◌, ◌++◌, length, get_or, take, drop, sym, ap, ◌∙◌, subst, append_assoc, append-nil, arith, length-append}
 use mir.Val.{bool_byte}
 use Rattle.std.specs.Int.Digits.{AllBelowBase}
 use Rattle.std.proofs.lemmas.List.{take_at, drop_at, take-append-le, get_or_append_left}
 use Rattle.model.specs.Wire.{Bytes, bytes_of, value_of, flag_of, seens_in, seen_bytes}
+use Rattle.model.specs.Lists.{every}
+use Rattle.model.specs.State.{Name, Spec}
+use Rattle.model.specs.Calls.{Seen, SetJob, AddMachine, Report, small}
+use Rattle.std.proofs.lemmas.Bool.{lt-ltb}
+use Rattle.wire.specs.Fits.{spec_numbers, long_id, numbers_fit}
 use Rattle.calls.specs.Meaning.{seens_of}
 use Rattle.octets.proofs.Numbers.{length_take_under, bytes_of_value}
 use Rattle.lines.proofs.Writing.{flag_byte}
@@ -17,6 +22,20 @@ then old v w a b p q = q ∙ ap (λ (xs : Bytes). xs ++ b) p ∙ append_assoc ol
 pub report_pushed : (old v1 v2 v3 v4 v5 v6 d : Bytes) (k l n c m : ℕ) → v1 ≡ old ++ (7 ∷ []) → v2 ≡ v1 ++ bytes_of 2 k → v3 ≡ v2 ++ bytes_of 8 l → v4 ≡ v3 ++ bytes_of 8 n → v5 ≡ v4 ++ bytes_of 2 c → v6 ≡ v5 ++ d → m ≡ c →
     v6 ≡ old ++ 7 ∷ (bytes_of 2 k ++ (bytes_of 8 l ++ (bytes_of 8 n ++ (bytes_of 2 m ++ d))))
 report_pushed old v1 v2 v3 v4 v5 v6 d k l n c m e1 e2 e3 e4 e5 e6 h = rw (e6, e5, e4, e3, e2, e1, h) (simp append_assoc)
+
+-- NUMBERS IN RANGE
+
+pub like_fits : (a : Spec) → a.image < 4294967296 → a.cpu < 4294967296 → a.mem < 4294967296 → every small a.tags ≡ true → spec_numbers a ≡ true
+like_fits a i c m t = rw (lt-ltb a.image 4294967296 i, lt-ltb a.cpu 4294967296 c, lt-ltb a.mem 4294967296 m) t
+
+pub set_fits : (n : Name) (a : Spec) (c l m : ℕ) → spec_numbers a ≡ true → c < 65536 → l < 65536 → m < 65536 → numbers_fit (SetJob n a c l m) ≡ true
+set_fits n a c l m f p q r = rw (f, lt-ltb c 65536 p, lt-ltb l 65536 q, lt-ltb m 65536 r)
+
+pub added_fits : (k c m : ℕ) (t : List ℕ) → k < 65536 → c < 4294967296 → m < 4294967296 → every small t ≡ true → numbers_fit (AddMachine k c m t) ≡ true
+added_fits k c m t p q r f = rw (lt-ltb k 65536 p, lt-ltb c 4294967296 q, lt-ltb m 4294967296 r) f
+
+pub reported_fits : (k l n : ℕ) (xs : List Seen) → k < 65536 → l < 18446744073709551616 → n < 18446744073709551616 → every long_id xs ≡ true → numbers_fit (Report k l n xs) ≡ true
+reported_fits k l n xs p q r f = rw (lt-ltb k 65536 p, lt-ltb l 18446744073709551616 q, lt-ltb n 18446744073709551616 r) f
 
 -- A REPORT'S TASKS
 

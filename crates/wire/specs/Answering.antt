@@ -3,8 +3,9 @@
 use Rattle.std.specs.Prelude.{◌≡◌, ℕ, ◌+◌, ◌*◌, ◌≤◌, true, false, List, length, vec_items, nat_le, Some, None, Option, Ok, Err, Result, Vec}
 use Rattle.std.specs.declared.alloc.Global.{Global}
 use Rattle.model.specs.Calls as m
-use Rattle.model.specs.Wire.{Bytes, Read, garbled, meant, field, byte_at, Answer}
-use Rattle.model.specs.Answers.{tags_at, order_in, is_order_in, orders_in_lem, are_orders_in, phase_in, lines_in, phases_in}
+use Rattle.model.specs.Wire.{Bytes, Read, garbled, meant, field, byte_at, Answer, answer_bytes}
+use Rattle.model.specs.Answers.{tags_at, order_in, is_order_in, orders_in_lem, are_orders_in, phase_in, lines_in, phases_in, read_answer_lem}
+use Rattle.model.specs.Lines.{framed, tag_in, call_in}
 use Rattle.wire.specs.declared.reply.Order.{Order}
 use Rattle.wire.specs.declared.reply.Phase.{Phase}
 use Rattle.wire.specs.declared.reply.Shown.{Shown}
@@ -53,7 +54,13 @@ SaysAs f x (Ok a) = x ≡ meant (f a)
 SaysAs f x (Err NoAnswer) = x ≡ garbled
 SaysAs f x (Err NoMemory) = Unit {0}
 
-abbrev pub AnsweredAs : ℕ → Read Answer → Result Answered Unread → Type 0
-AnsweredAs tag x (Ok a) = (x ≡ meant (reply_of a.reply)) × (a.tag ≡ tag)
-AnsweredAs tag x (Err NoAnswer) = x ≡ garbled
-AnsweredAs tag x (Err NoMemory) = Unit {0}
+-- what a line says: an answer and its tag, and it is the one line that says so
+pub record SaysAnswer (line : Bytes) (a : Answered) : Type 0 where
+  pub says : read_answer_lem (call_in line) ≡ meant (reply_of a.reply)
+  pub tag : a.tag ≡ tag_in line
+  pub again : framed a.tag (answer_bytes (reply_of a.reply)) ≡ line
+
+abbrev pub AnsweredAs : Bytes → Result Answered Unread → Type 0
+AnsweredAs line (Ok a) = SaysAnswer line a
+AnsweredAs line (Err NoAnswer) = read_answer_lem (call_in line) ≡ garbled
+AnsweredAs line (Err NoMemory) = Unit {0}

@@ -8,5 +8,6 @@ pub mod push;
 pub mod read;
 pub mod reply;
 pub mod shown;
+pub mod theorems;
 pub mod unread;
 pub mod unwritten;

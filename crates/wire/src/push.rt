@@ -1,7 +1,7 @@
 // Numbers, names and tags, each pushed behind the bytes that are there.
-ghost use Rattle.std.specs.Prelude.{◌≡◌, ◌/◌, ◌≤◌, ◌∷◌, ◌++◌, length, OnOk};
-ghost use Rattle.model.specs.Wire.{bytes_of, name_bytes, tag_bytes};
-ghost use Rattle.calls.specs.Meaning.{tags_of};
+ghost use Rattle.std.specs.Prelude.{◌≡◌, ◌/◌, ◌≤◌, ◌++◌, length, OnOk};
+ghost use Rattle.model.specs.Wire.{bytes_of, name_bytes};
+ghost use Rattle.wire.specs.Pushed.{PushesTags};
 
 use lines::write::put_number;
 use octets::field::Number;
@@ -28,7 +28,7 @@ pub(crate) fn push_name(bytes: &mut Vec<u8>, name: &[u8]) -> Result<(), AllocErr
 // Tags behind their number, four bytes each; a part of one behind the last is none.
 pub(crate) fn push_tags(bytes: &mut Vec<u8>, tags: &[u8]) -> Result<(), AllocError>
     requires { length tags.now / 4 ≤ 255 }
-    ensures { OnOk result (bytes.new.items ≡ bytes.old.items ++ (length (tags_of tags.now) ∷ tag_bytes (tags_of tags.now))) }
+    ensures { OnOk result (PushesTags tags.now bytes.old.items bytes.new.items) }
 {
     let count = tags.len() / 4;
     bytes.push(count as u8)?;

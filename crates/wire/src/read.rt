@@ -1,6 +1,5 @@
 // Answers from bytes.
 ghost use Rattle.model.specs.Answers.{read_answer_lem};
-ghost use Rattle.model.specs.Lines.{call_in, tag_in};
 ghost use Rattle.wire.specs.Answering.{AnsweredAs, SaysAs};
 ghost use Rattle.wire.specs.Replies.{reply_of};
 
@@ -25,9 +24,9 @@ pub fn read_answer(heap: Global, bytes: &[u8]) -> Result<Reply, Unread>
     }
 }
 
-// What an answer in its frame says, and its tag.
+// What an answer in its frame says, and its tag; written again they are that line.
 pub fn read_reply(heap: Global, line: &[u8]) -> Result<Answered, Unread>
-    ensures { AnsweredAs (tag_in line.now) (read_answer_lem (call_in line.now)) result }
+    ensures { AnsweredAs line.now result }
 {
     let reply = read_answer(heap, unframed(line))?;
     Ok(Answered {

@@ -1,7 +1,8 @@
 use Rattle.std.proofs.Common.{refl}
 use Rattle.std.specs.List.{flat_map}
 use Rattle.model.specs.Calls.{Order}
-use Rattle.agents.specs.Memory.{order_of, seens_of}
+use Rattle.agents.specs.Memory.{seens_of}
+use Rattle.wire.specs.Replies.{order_of}
 use Rattle.agents.specs.Reporting.{task_bytes_lem}
 use Rattle.agents.proofs.Lists.{gather_none, gather_item, gather_all}
 use Rattle.agents.proofs.report.add_tasks.Goals as goal

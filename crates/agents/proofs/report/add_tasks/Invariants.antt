@@ -1,5 +1,6 @@
 use Rattle.std.proofs.Common.{◌≡◌, ◌++◌, take, vec_items}
-use Rattle.agents.specs.Memory.{orders_of, seens_of}
+use Rattle.agents.specs.Memory.{seens_of}
+use Rattle.wire.specs.Replies.{orders_of}
 use Rattle.agents.specs.Reporting.{tasks_bytes}
 use Rattle.agents.proofs.report.add_tasks.Given as goal
 

@@ -2,8 +2,8 @@ use Rattle.std.proofs.Common.{eqb, rules, tests, ◌∙◌}
 use Rattle.std.proofs.lemmas.Iterator.{YieldsList-from_slice}
 use Rattle.std.proofs.lemmas.Iterator.Search.{any_from_yields_List}
 use Rattle.model.specs.World.{is_order}
-use Rattle.agents.specs.Memory.{order_of}
-use Rattle.agents.specs.declared.order.Order.{Order}
+use Rattle.wire.specs.Replies.{order_of}
+use Rattle.wire.specs.declared.reply.Order.{Order}
 use Rattle.agents.proofs.Chains.{some_as}
 use Rattle.agents.proofs.running.is_ordered.Goals as goal
 

@@ -5,7 +5,7 @@ use Rattle.std.proofs.lemmas.Iterator.{YieldsList-from_slice, items_from_collect
 use Rattle.std.proofs.lemmas.Iterator.Consumers.{YieldsList-from_copied, YieldsList-from_filter}
 use Rattle.model.specs.Lists.{some}
 use Rattle.model.specs.World.{is_order}
-use Rattle.agents.specs.Memory.{orders_of}
+use Rattle.wire.specs.Replies.{orders_of}
 use Rattle.agents.specs.declared.order.Seen.{Seen}
 use Rattle.agents.proofs.Chains.{kept_from}
 use Rattle.agents.proofs.running.keep_ordered.Goals as goal

@@ -4,9 +4,9 @@ use Rattle.std.proofs.lemmas.Iterator.{YieldsList-from_slice}
 use Rattle.std.proofs.lemmas.Iterator.Search.{find_from_yields_List}
 use Rattle.model.specs.Lists.{find}
 use Rattle.model.specs.World.{is_order}
-use Rattle.agents.specs.Memory.{orders_of}
+use Rattle.wire.specs.Replies.{orders_of}
 use Rattle.agents.specs.Moves.{Found}
-use Rattle.agents.specs.declared.order.Order.{Order}
+use Rattle.wire.specs.declared.reply.Order.{Order}
 use Rattle.agents.proofs.Chains.{found_as}
 use Rattle.agents.proofs.running.order_for.Goals as goal
 

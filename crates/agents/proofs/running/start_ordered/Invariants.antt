@@ -1,7 +1,8 @@
 use Rattle.std.proofs.Common.{◌≡◌, vec_items}
 use Rattle.std.specs.Slice.Iter.{iter_rest}
 use Rattle.std.specs.Iterator.Adapters.{rev_source}
-use Rattle.agents.specs.Memory.{orders_of, seens_of}
+use Rattle.agents.specs.Memory.{seens_of}
+use Rattle.wire.specs.Replies.{orders_of}
 use Rattle.agents.specs.Moves.{started}
 use Rattle.agents.proofs.running.start_ordered.Given as goal
 

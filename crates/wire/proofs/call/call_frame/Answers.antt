@@ -1,8 +1,10 @@
-use Rattle.std.proofs.Common.{◌++◌, rules, ap, ◌∙◌}
+use Rattle.std.proofs.Common.{◌++◌, rules, ap, ◌∙◌, arith}
 use Rattle.model.specs.Wire.{call_bytes}
 use Rattle.calls.specs.Meaning.{call_of}
 use Rattle.wire.proofs.Short.{framed_call}
 use Rattle.wire.proofs.call.call_frame.Goals as goal
 
 pub returns : goal.returns
-returns c = framed_call _ _ _ _ (search rules) (c.as_slice.ensures.value ∙ c.in_ok-push_call.ensures ∙ ap (λ xs. xs ++ call_bytes (call_of c.args.call.now)) c.new-body.ensures.items) c.frame.ensures
+returns c =
+    let p = c.in_ok-push_call.ensures in
+    framed_call _ _ _ _ (omega arith) (search rules) p.fits (c.as_slice.ensures.value ∙ p.bytes ∙ ap (λ xs. xs ++ call_bytes (call_of c.args.call.now)) c.new-body.ensures.items) c.frame.ensures

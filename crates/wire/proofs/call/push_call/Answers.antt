@@ -1,6 +1,6 @@
 use Rattle.std.proofs.Common.{ap, sym, ◌∙◌}
 use Rattle.calls.specs.Meaning.{call_of}
-use Rattle.wire.specs.Written.{is_short_lem}
+use Rattle.wire.specs.Short.{is_short_lem}
 use Rattle.wire.proofs.Short.{few_set, few_added, few_reported}
 use Rattle.wire.proofs.call.push_call.Goals as goal
 

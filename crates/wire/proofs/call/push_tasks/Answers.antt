@@ -1,10 +1,11 @@
-use Rattle.std.proofs.Common.{◌++◌, ◌∙◌, refl, ap, sym, subst, arith}
+use Rattle.std.proofs.Common.{◌/◌, ◌++◌, length, ◌∙◌, refl, ap, sym, subst, arith}
 use Rattle.std.specs.Int.Digits.{AllBelowBase}
 use Rattle.std.specs.Slice.Iter.{chunks_exact_rest, chunks_exact_size}
 use Rattle.model.specs.Wire.{seen_bytes}
 use Rattle.calls.specs.Meaning.{seens_of}
 use Rattle.octets.proofs.Numbers.{bytes_under}
 use Rattle.wire.proofs.Pushing.{tasks_more, tasks_left, tasks_done}
+use Rattle.wire.proofs.CallsAgain.{seens_long}
 use Rattle.wire.proofs.call.push_tasks.Goals as goal
 
 pub loop-task-init : goal.loop-task-init
@@ -26,4 +27,6 @@ loop-task-preserved c =
     }
 
 pub returns : goal.returns
-returns c = let s = c.in-None.ensures.steps in let v = c.loop-task.invariant in tasks_done _ _ _ (omega (arith, s, v.nine)) v.goes_on
+returns c =
+    let s = c.in-None.ensures.steps in let v = c.loop-task.invariant in let ts = c.args.tasks.now in
+    record { bytes = tasks_done _ _ _ (omega (arith, s, v.nine)) v.goes_on; fits = seens_long (length ts / 9) ts (bytes_under ts (λ k. let h = c.type_inv.tasks k in omega arith)) }
