@@ -42,9 +42,10 @@ for script in "$top"/examples/*.script; do
     [ -e "$script" ] || continue
     compare "${script#"$top"/}" "$script"
     head -n -1 "$work/ours" >"$work/printed"
-    cmp -s "$work/printed" "${script%.script}.out" || {
-        echo "${script#"$top"/}: what is printed is not what stands in ${script##*/}, .out:"
-        diff "$work/printed" "${script%.script}.out" | head -n 5
+    printed=${script%.script}.out
+    cmp -s "$work/printed" "$printed" || {
+        echo "$script prints other than what stands in $printed:"
+        diff "$work/printed" "$printed" | head -n 5
         exit 1
     }
     stories=$((stories + 1))
