@@ -1,6 +1,7 @@
 #!/usr/bin/env bash
 # Plays scripts with `rehearse` and with the second program, and fails on the first line in which they differ: those in examples/,
-# then COUNT scripts that the second program writes, by the seeds from FIRST on.
+# three calls with the power failing after each number of their stores, then COUNT scripts that the second program writes, by the seeds
+# from FIRST on.
 # Usage: tests/rehearse.sh PATH-OF-REHEARSE [FIRST [COUNT]]
 set -euo pipefail
 rehearse=$(realpath "$1")
@@ -15,7 +16,7 @@ second="$top/second/target/release/second"
 # Plays a script with a program: what it prints, and its status as a last line.
 play() {
     local status=0
-    "${@:3}" <"$1" >"$2" || status=$?
+    timeout 60 "${@:3}" <"$1" >"$2" || status=$?
     echo "status $status" >>"$2"
 }
 
@@ -41,15 +42,25 @@ for script in "$top"/examples/*.script; do
     [ -e "$script" ] || continue
     compare "${script#"$top"/}" "$script"
     head -n -1 "$work/ours" >"$work/printed"
-    cmp -s "$work/printed" "${script%.script}.out" || {
-        echo "${script#"$top"/}: what is printed is not what stands in ${script##*/}, .out:"
-        diff "$work/printed" "${script%.script}.out" | head -n 5
+    printed=${script%.script}.out
+    cmp -s "$work/printed" "$printed" || {
+        echo "$script prints other than what stands in $printed:"
+        diff "$work/printed" "$printed" | head -n 5
         exit 1
     }
     stories=$((stories + 1))
+done
+cuts=0
+for call in rollout report eight; do
+    n=0
+    while "$second" cut "$call" "$n" >"$work/script"; do
+        compare "$call, dark $n" "$work/script"
+        n=$((n + 1))
+    done
+    cuts=$((cuts + n))
 done
 for seed in $(seq "$first" $((first + count - 1))); do
     "$second" generate "$seed" >"$work/script"
     compare "seed $seed" "$work/script"
 done
-echo "rehearse: $stories stories and $count seeds from $first on agree"
+echo "rehearse: $stories stories, $cuts calls cut in the dark and $count seeds from $first on agree"

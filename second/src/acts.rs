@@ -147,7 +147,7 @@ pub fn forget(w: &mut Writer) {
 }
 
 pub fn dark(w: &mut Writer) {
-    let stores = w.below(9) * w.below(9);
+    let stores = w.below(8) * w.below(8);
     w.say(format!("dark {stores}"));
 }
 

@@ -54,3 +54,44 @@ pub fn most(s: &State, mosts: &[(Vec<u8>, u16)]) -> Option<String> {
         })
     })
 }
+
+#[cfg(test)]
+mod tests {
+    use super::*;
+    use crate::calls::{Order, Run};
+    use crate::rules::Likeness;
+
+    fn running(machine: u16, tasks: &[u64]) -> Agent {
+        let mut agent = Agent::new(machine);
+        let order = |task: &u64| Order {
+            task: *task,
+            likeness: Likeness {
+                image: 1,
+                cpu: 3,
+                memory: 0,
+                tags: Vec::new(),
+                apart: false,
+            },
+        };
+        let orders = tasks.iter().map(order).collect();
+        let run = Run {
+            machine,
+            life: 1,
+            number: 0,
+            orders,
+        };
+        agent.obey(run).expect("it answers the last report");
+        agent
+    }
+
+    #[test]
+    fn what_is_wrong_is_found() {
+        let s = State::blank();
+        let agents = [running(4, &[]), running(7, &[1, 2]), running(3, &[3, 2])];
+        let over = "machine 7 runs cpu 6 of 0, memory 0 of 0";
+        assert_eq!(within(&s, &agents), Some(over.into()));
+        assert_eq!(twice(&agents), Some("task 2 on 7 and 3".into()));
+        assert_eq!(twice(&agents[..2]), None);
+        assert_eq!(most(&s, &[(b"x".to_vec(), 0)]), None);
+    }
+}

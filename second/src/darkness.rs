@@ -73,7 +73,7 @@ fn a_pass_that_brings_eight_tasks() {
 fn what_changes_nothing_stores_nothing() {
     assert_eq!(sweep(&["rounds 4 1", "time 9"]), 0);
     assert_eq!(sweep(&["show mix"]), 0);
-    assert_eq!(sweep(&["end mix"]), 0);
+    assert_eq!(sweep(&["end nobody"]), 0);
     assert_eq!(sweep(&["rounds 4 1", "report 1", "deliver"]), 1);
 }
 

@@ -36,7 +36,7 @@ fn go_on(w: &mut Writer, lines: usize, acts: &[Act]) {
     }
 }
 
-pub fn machines(w: &mut Writer, n: usize, cpu: u64) {
+fn machines(w: &mut Writer, n: usize, cpu: u64) {
     w.time(0);
     for machine in &MACHINES[..n] {
         let more = w.below(4);

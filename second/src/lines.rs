@@ -64,3 +64,16 @@ impl Chance {
         self.draw() % n
     }
 }
+
+#[cfg(test)]
+mod tests {
+    use super::Chance;
+
+    #[test]
+    fn the_generator_is_splitmix64() {
+        assert_eq!(Chance(0).draw(), 0xE220_A839_7B1D_CDAF);
+        let mut chance = Chance(1_234_567);
+        assert_eq!(chance.draw(), 6_457_827_717_110_365_317);
+        assert_eq!(chance.draw(), 3_203_168_211_198_807_973);
+    }
+}

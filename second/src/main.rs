@@ -7,6 +7,7 @@ mod calls;
 #[cfg(test)]
 mod cases;
 mod check;
+mod cuts;
 #[cfg(test)]
 mod darkness;
 mod generate;
@@ -30,6 +31,7 @@ fn main() -> ExitCode {
     match words[..] {
         ["play"] => play(),
         ["generate", seed] => generate(seed),
+        ["cut", call, stores] => cut(call, stores),
         _ => usage(),
     }
     .unwrap_or(ExitCode::FAILURE)
@@ -57,7 +59,21 @@ fn generate(seed: &str) -> io::Result<ExitCode> {
     Ok(ExitCode::SUCCESS)
 }
 
+/// Fails where that call has fewer stores, which ends a sweep.
+fn cut(call: &str, stores: &str) -> io::Result<ExitCode> {
+    let Ok(stores) = stores.parse() else {
+        return usage();
+    };
+    let Some(script) = cuts::write(call, stores) else {
+        return Ok(ExitCode::FAILURE);
+    };
+    io::stdout().write_all(script.as_bytes())?;
+    Ok(ExitCode::SUCCESS)
+}
+
 fn usage() -> io::Result<ExitCode> {
-    eprintln!("usage: second play <SCRIPT, or second generate SEED");
+    eprintln!("usage: second play <SCRIPT");
+    eprintln!("       second generate SEED");
+    eprintln!("       second cut rollout|report|eight STORES");
     Ok(ExitCode::from(2))
 }

@@ -127,44 +127,33 @@ fn other(words: &[&str]) -> Option<Command> {
     })
 }
 
+/// What stands in front of the numbers of `set`.
+const KEYS: [&str; 6] = ["image", "cpu", "memory", "count", "least", "most"];
+
 fn wanted(words: &[&str]) -> Option<Wanted> {
-    let [
-        _,
-        job,
-        "image",
-        image,
-        "cpu",
-        cpu,
-        "memory",
-        memory,
-        "count",
-        count,
-        "least",
-        least,
-        "most",
-        most,
-        ref rest @ ..,
-    ] = *words
-    else {
+    let (front, rest) = words.split_at_checked(14)?;
+    let mut keys = front[2..].iter().step_by(2);
+    if !KEYS.iter().all(|key| keys.next() == Some(key)) {
         return None;
-    };
+    }
+    let value = |i: usize| front[3 + 2 * i];
     let (tagged, apart) = match rest {
         [front @ .., "apart"] => (front, true),
         front => (front, false),
     };
     let likeness = Likeness {
-        image: number(image)?,
-        cpu: number(cpu)?,
-        memory: number(memory)?,
+        image: number(value(0))?,
+        cpu: number(value(1))?,
+        memory: number(value(2))?,
         tags: tags(tagged)?,
         apart,
     };
     Some(Wanted {
-        name: name(job)?,
+        name: name(front[1])?,
         likeness,
-        count: number(count)?,
-        least: number(least)?,
-        most: number(most)?,
+        count: number(value(3))?,
+        least: number(value(4))?,
+        most: number(value(5))?,
     })
 }
 
@@ -201,4 +190,58 @@ fn number<T: TryFrom<u64>>(word: &str) -> Option<T> {
         return None;
     }
     T::try_from(word.parse::<u64>().ok()?).ok()
+}
+
+#[cfg(test)]
+mod tests {
+    use super::*;
+
+    fn why(line: &str) -> String {
+        parse(line.as_bytes()).expect_err("a bad line")
+    }
+
+    #[test]
+    fn lines_are_read() {
+        assert_eq!(parse(b" \t\r # nothing"), Ok(None));
+        assert_eq!(parse(b"show"), Ok(Some(Command::Show)));
+        assert_eq!(parse(b"\thand 007\r#7"), Ok(Some(Command::Hand(7))));
+        let show = Command::Say(Call::Show(b"mix!".to_vec()));
+        assert_eq!(parse(b"show mix! # yes"), Ok(Some(show)));
+        let last = b"time 18446744073709551615";
+        assert_eq!(parse(last), Ok(Some(Command::Say(Call::Time(u64::MAX)))));
+    }
+
+    #[test]
+    fn a_set_is_read() {
+        let line = "set a image 1 cpu 2 memory 3 count 4 least 5 most 6";
+        for (behind, tags, apart) in [
+            ("", vec![], false),
+            (" apart", vec![], true),
+            (" tags 7", vec![7], false),
+            (" tags 7,8 apart", vec![7, 8], true),
+        ] {
+            let read = parse(format!("{line}{behind}").as_bytes());
+            let Ok(Some(Command::Say(Call::Set(wanted)))) = read else {
+                panic!("{line}{behind}: {read:?}");
+            };
+            assert_eq!((wanted.likeness.tags, wanted.likeness.apart), (tags, apart));
+            assert_eq!((wanted.count, wanted.least, wanted.most), (4, 5, 6));
+        }
+    }
+
+    #[test]
+    fn bad_lines() {
+        assert_eq!(why("time 1 # \u{e4}"), "not printable ASCII");
+        assert_eq!(why("times 1"), "no such command");
+        assert_eq!(why("time"), "say time T");
+        assert_eq!(why("time +1"), "say time T");
+        assert_eq!(why("time 18446744073709551616"), "say time T");
+        assert_eq!(why("show a b"), "say show, or show NAME");
+        assert_eq!(why("report 65536"), "say report M");
+        let many = vec!["1"; 256].join(",");
+        let usage = "say add M cpu C memory M [tags T,T,..]";
+        assert_eq!(why(&format!("add 1 cpu 1 memory 1 tags {many}")), usage);
+        assert_eq!(why("add 1 cpu 1 memory 1 tags 1,,2"), usage);
+        assert_eq!(why(&format!("end {}", "n".repeat(256))), "say end NAME");
+    }
 }

@@ -1,7 +1,6 @@
 //! The dark at each store of a call that changes much: the same again, and later, until the call is done.
 
-use crate::generate::{JOBS, Writer};
-use crate::kinds::machines;
+use crate::generate::Writer;
 
 /// How long such a script may become.
 const LINES: usize = 190;
@@ -13,11 +12,12 @@ const SMALL: u16 = 60_000;
 type Again = fn(&mut Writer);
 
 pub fn write(w: &mut Writer) {
-    match w.below(6) {
+    match w.below(8) {
         0 | 1 => rollout(w),
         2 => coming_up(w),
         3 => placing(w),
-        4 => growing(w),
+        4 | 5 => growing(w),
+        6 => first_time(w),
         _ => adding(w),
     }
 }
@@ -93,29 +93,43 @@ fn sweep_whole(w: &mut Writer, call: &[String], again: Again) {
     }
 }
 
-fn some_jobs(w: &mut Writer, n: usize) {
-    for job in &JOBS[..n] {
-        w.say(format!(
-            "set {job} image 1 cpu 1 memory 1 count 2 least 1 most 3"
-        ));
+const TAGS: &str = "tags 1,2,3,4,5,6,7,8";
+
+fn large_machines(w: &mut Writer, n: u16) {
+    w.time(0);
+    small(w);
+    for machine in 1..=n {
+        w.say(format!("add {machine} cpu 20 memory 40 {TAGS}"));
+    }
+    w.say("rounds 1 100");
+}
+
+/// Jobs with all that a row has room for, so that there is much to store.
+fn job(i: u64, image: u32, amounts: &str) -> String {
+    let name = format!("sender-of-the-northern-cellar-{i}");
+    format!("set {name} image {image} cpu 1 memory 1 {amounts} {TAGS}")
+}
+
+fn some_jobs(w: &mut Writer, n: u64) {
+    for i in 0..n {
+        w.say(job(i, 1, "count 2 least 1 most 3"));
     }
     w.say("rounds 4 100");
 }
 
 /// A new image: a task ends, and another comes.
 fn rollout(w: &mut Writer) {
-    machines(w, 3, 10);
-    small(w);
+    large_machines(w, 3);
     some_jobs(w, 2);
-    let call = "set mix image 2 cpu 1 memory 1 count 2 least 1 most 3";
-    sweep(w, &[call], Writer::recover);
+    let call = job(0, 2, "count 2 least 1 most 3");
+    sweep(w, &[&call], Writer::recover);
 }
 
 /// A report of a machine in its next life: all its tasks are gone, and others come.
 fn coming_up(w: &mut Writer) {
-    machines(w, 2, 20);
-    small(w);
-    some_jobs(w, 6);
+    large_machines(w, 2);
+    let jobs = 1 + w.below(6);
+    some_jobs(w, jobs);
     w.say("fall 1");
     sweep(w, &["report 1", "deliver"], |w| w.time(1));
 }
@@ -124,30 +138,42 @@ fn coming_up(w: &mut Writer) {
 fn placing(w: &mut Writer) {
     w.time(0);
     small(w);
-    let jobs = 1 + w.below(6) as usize;
+    let jobs = 1 + w.below(8);
     some_jobs(w, jobs);
-    w.say("add 5 cpu 100 memory 100");
+    w.say(format!("add 5 cpu 100 memory 100 {TAGS}"));
     sweep(w, &["report 5", "deliver"], |w| w.time(1));
 }
 
-/// The time, and with it a pass in which each of many jobs gets a task. (Whatever makes the halves take turns would do that, too.)
+/// A setting, and with it a pass in which each of many jobs gets a task.
 fn growing(w: &mut Writer) {
     w.time(0);
-    let jobs = 1 + w.below(6) as usize;
-    for job in &JOBS[..jobs] {
-        w.say(format!(
-            "set {job} image 1 cpu 1 memory 1 count 9 least 0 most 9 tags 4,5 apart"
-        ));
+    small(w);
+    let jobs = 1 + w.below(8);
+    for i in 0..jobs {
+        w.say(job(i, 1, "count 200 least 0 most 200"));
+    }
+    let call = job(jobs - 1, 1, "count 200 least 0 most 201");
+    sweep(w, &[&call], |w| w.time(1));
+}
+
+/// The same by the time that is told first.
+fn first_time(w: &mut Writer) {
+    w.time(0);
+    let jobs = 1 + w.below(4);
+    for i in 0..jobs {
+        w.say(job(i, 1, "count 9 least 0 most 9"));
     }
     sweep_rests(w, &["time 50".to_string()], |_| ());
 }
 
-/// A machine, and a job that is new.
+/// A machine, or a job that is new.
 fn adding(w: &mut Writer) {
-    machines(w, 1, 9);
-    small(w);
-    let add = "add 9 cpu 7 memory 8 tags 1,2,3";
-    let set = "set a-job-with-a-name-of-some-length image 9 cpu 2 memory 2 count 3 least 1 most 4";
-    let call = w.pick(&[add, set]);
-    sweep(w, &[call], Writer::recover);
+    large_machines(w, 1);
+    let add = "add 9 cpu 7 memory 8 tags 1,2,3,4,5,6,7,8,9,10,11,12,13,14,15,16";
+    let set = job(9, 9, "count 3 least 1 most 4");
+    if w.one_in(2) {
+        sweep(w, &[add], Writer::recover);
+    } else {
+        sweep(w, &[&set], Writer::recover);
+    }
 }
