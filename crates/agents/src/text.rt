@@ -4,7 +4,7 @@ ghost use Rattle.std.specs.Char.{digit_char};
 ghost use Rattle.model.specs.Wire.{garbled};
 ghost use Rattle.lines.specs.Resume.{number_in};
 ghost use Rattle.lines.specs.Text.{decimal_on, first, hex_on, hex_text};
-ghost use Rattle.agents.specs.Texts.{UnhexedAs};
+ghost use Rattle.agents.specs.Texts.{SaidAs, TaskIn, UnhexedAs};
 ghost use Rattle.agents.specs.declared.text.Unhexed.TheVariants.{NoMemory};
 
 use jobs::ids::TaskId;
@@ -101,12 +101,16 @@ pub fn decimal(text: &[u8]) -> Option<u64>
     number
 }
 
-fn task(digits: &[u8]) -> Option<TaskId> {
+fn task(digits: &[u8]) -> Option<TaskId>
+    ensures { MatchOption result (decimal_on garbled digits.now ≡ garbled) (λ t. TaskIn digits.now t.0) }
+{
     decimal(digits).map(TaskId)
 }
 
 // What a line says, if it says something.
-pub fn meaning(line: &[u8]) -> Option<Said<'_>> {
+pub fn meaning(line: &[u8]) -> Option<Said<'_>>
+    ensures { SaidAs line.now result }
+{
     if line == b"report".as_slice() {
         return Some(Said::Report);
     }
