@@ -35,9 +35,18 @@ pub fn time(w: &mut Writer) {
     w.time(ms);
 }
 
+/// Times that are turned away, or go back.
 pub fn odd_time(w: &mut Writer) {
-    let time = w.pick(&[0, 1, 2, (1 << 62) + 1, u64::MAX]);
-    w.say(format!("time {time}"));
+    let line = w.pick(&[
+        "time 0",
+        "time 1",
+        "time 2",
+        "time 4611686018427387905",
+        "time 18446744073709551615",
+        "rounds 1 18446744073709551615",
+        "rounds 2 4611686018427387904",
+    ]);
+    w.say(line);
 }
 
 pub fn report(w: &mut Writer) {

@@ -38,9 +38,10 @@ fn go_on(w: &mut Writer, lines: usize, acts: &[Act]) {
 
 fn machines(w: &mut Writer, n: usize, cpu: u64) {
     w.time(0);
+    let memory = w.pick(&[4, 6, 40]);
     for machine in &MACHINES[..n] {
         let more = w.below(4);
-        w.add(*machine, cpu + more, 40);
+        w.add(*machine, cpu + more, memory);
     }
     w.say("rounds 1 1000");
 }

@@ -23,6 +23,7 @@ mod show;
 mod sweeps;
 
 use std::io::{self, Read, Write};
+use std::path::Path;
 use std::process::ExitCode;
 
 fn main() -> ExitCode {
@@ -31,7 +32,7 @@ fn main() -> ExitCode {
     match words[..] {
         ["play"] => play(),
         ["generate", seed] => generate(seed),
-        ["cut", call, stores] => cut(call, stores),
+        ["cuts", folder] => cuts(folder),
         _ => usage(),
     }
     .unwrap_or(ExitCode::FAILURE)
@@ -59,21 +60,16 @@ fn generate(seed: &str) -> io::Result<ExitCode> {
     Ok(ExitCode::SUCCESS)
 }
 
-/// Fails where that call has fewer stores, which ends a sweep.
-fn cut(call: &str, stores: &str) -> io::Result<ExitCode> {
-    let Ok(stores) = stores.parse() else {
-        return usage();
-    };
-    let Some(script) = cuts::write(call, stores) else {
-        return Ok(ExitCode::FAILURE);
-    };
-    io::stdout().write_all(script.as_bytes())?;
+fn cuts(folder: &str) -> io::Result<ExitCode> {
+    for (name, script) in cuts::all() {
+        std::fs::write(Path::new(folder).join(name), script)?;
+    }
     Ok(ExitCode::SUCCESS)
 }
 
 fn usage() -> io::Result<ExitCode> {
     eprintln!("usage: second play <SCRIPT");
     eprintln!("       second generate SEED");
-    eprintln!("       second cut rollout|report|eight STORES");
+    eprintln!("       second cuts FOLDER");
     Ok(ExitCode::from(2))
 }
