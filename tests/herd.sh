@@ -76,6 +76,18 @@ check "and a report of 2,048 tasks is taken" "out 000000190000000202000100000000
 check "one of 2,049 isn't" "out 00000006000000030001" "$(sed -n 4p out)"
 check "and the next one is" "out 00000019000000040200010000000000000001000000000000000400""00" "$(sed -n 5p out)"
 
+# 256 machines and 256 jobs are as many as there may be; one more is turned away by 8.
+mkdir many
+{
+    echo 'time 1'
+    for n in $(seq 0 256); do printf 'in 00000010%08x03%04x000000000000000000\n' "$n" "$n"; done
+    for n in $(seq 0 256); do printf 'in 0000001c%08x0102%04x0000000100000001000000010000000000000000\n' "$n" "$n"; done
+} >lines
+"$herd" many <lines >out
+check "256 machines and 256 jobs are taken" 512 "$(sed 1d out | grep -c '^out 00000005........01$')"
+check "the next machine isn't" "out 00000006000001000008" "$(sed -n 258p out)"
+check "nor is the next job" "out 00000006000001000008" "$(sed -n 515p out)"
+
 # Words that no herd stored.
 mkdir damaged && head -c 2097152 /dev/zero | tr '\0' '\377' >damaged/kept
 before=$(cksum <damaged/kept)

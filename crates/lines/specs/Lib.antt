@@ -1,6 +1,5 @@
 pub mod Held
 pub mod Input
-pub mod Code
 pub mod Shown
 pub mod Text
 pub mod Resume

@@ -1,7 +1,6 @@
-// Lines: calls and answers as bytes, and the function that answers a line.
+// Lines: text and bytes, calls read from bytes, answers written as bytes.
 #![tactic(auto)]
 
-pub mod answer;
 pub mod decimal;
 pub mod hex;
 pub mod input;

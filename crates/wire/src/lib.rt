@@ -8,6 +8,8 @@ pub mod push;
 pub mod read;
 pub mod reply;
 pub mod shown;
+#[cfg(test)]
+mod tests;
 pub mod theorems;
 pub mod unread;
 pub mod unwritten;
