@@ -1,4 +1,9 @@
 // The herd in memory: its kept words, what it has in mind, and how many words it may yet store.
+ghost use Rattle.std.specs.Prelude.{◌≡◌, List, ℕ, slice_index, take};
+ghost use Rattle.lines.specs.Overlong.{AreBytes};
+ghost use Rattle.serving.specs.Herd.{held_by};
+ghost use Rattle.rehearsal.specs.Heard.{Heard};
+
 use calls::mind::Mind;
 use device::fused::Fused;
 use device::kept::{Dark, WORDS};
@@ -53,7 +58,9 @@ impl Herd {
     }
 
     // A line comes, and its answer is the reply; or the power fails, there is no answer, and the herd wakes.
-    pub fn hear(&mut self, line: &[u8]) -> Result<(), Dark> {
+    pub fn hear(&mut self, line: &[u8]) -> Result<(), Dark>
+        ensures { AreBytes line.now → Heard line.now (held_by self.old.mind) (slice_index self.old.words) result (take self.new.reply.len self.new.reply.bytes) (held_by self.new.mind) (slice_index self.new.words) }
+    {
         self.line.set(line);
         let before = self.fuse.unwrap_or(u64::MAX);
         let mut device = Fused::new(&mut self.words, before);
