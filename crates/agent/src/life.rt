@@ -1,10 +1,11 @@
 // The file `life`, replaced as a whole: the next life is on the disk before anything bears it.
 use agents::life::{Unfit, first_life, life_bytes, next_life};
+use device::replace::{Paths, replace};
 use jobs::ids::{LAST, Life};
 use std::alloc::AllocError;
 use std::fs::File;
 use std::io::{ErrorKind, Read, Write};
-use std::{fmt, fs, io};
+use std::{fmt, io};
 
 // Why the agent does not go on.
 #[derive(Debug, Drop)]
@@ -90,21 +91,22 @@ fn next(rt: &HostRuntime, path: &str) -> Result<Life, Trouble> {
     }
 }
 
-// Written aside, synced, moved into place, and the directory synced.
-fn keep(rt: &HostRuntime, dir: &str, path: &str, life: Life) -> io::Result<()> {
-    let aside = format!(in rt.alloc(); "{dir}/life.new")?;
-    let mut file = File::create(rt, aside.as_str())?;
-    file.write_all(&life_bytes(life))?;
-    file.sync_all()?;
-    drop(file);
-    fs::rename(rt, aside.as_str(), path)?;
-    File::open(rt, dir)?.sync_all()
+// On the disk, before anything bears it.
+fn keep(rt: &HostRuntime, paths: Paths<'_>, life: Life) -> io::Result<()> {
+    let aside = format!(in rt.alloc(); "{}/life.new", paths.dir)?;
+    replace(rt, paths, aside.as_str(), |file| {
+        file.write_all(&life_bytes(life))
+    })
 }
 
 // A life that was never used, once it is on the disk.
 pub fn rise(rt: &HostRuntime, dir: &str) -> Result<Life, Trouble> {
     let path = format!(in rt.alloc(); "{dir}/life")?;
     let life = next(rt, path.as_str())?;
-    keep(rt, dir, path.as_str(), life).map_err(Trouble::Keep)?;
+    let paths = Paths {
+        file: path.as_str(),
+        dir,
+    };
+    keep(rt, paths, life).map_err(Trouble::Keep)?;
     Ok(life)
 }

@@ -72,11 +72,7 @@ impl Line {
         }
     }
 
-    // (By hand: `as_ref` would leave both lent, to be taken out again.)
     pub fn text(&self) -> Result<&[u8], Fault> {
-        match &self.held {
-            Ok(text) => Ok(text.as_slice()),
-            Err(fault) => Err(*fault),
-        }
+        self.held.as_deref().map_err(|fault| *fault)
     }
 }

@@ -5,17 +5,11 @@ ghost use Rattle.device.specs.Opens.{IsFair};
 use crate::bytes::decode;
 use crate::filed::Filed;
 use crate::kept::WORDS;
+use crate::replace::{Paths, replace};
 use std::alloc::AllocError;
 use std::fs::{File, OpenOptions};
 use std::io::{ErrorKind, Read};
-use std::{fmt, fs, io};
-
-// Where the file is, and its directory.
-#[derive(Clone, Copy)]
-pub struct Paths<'a> {
-    pub file: &'a str,
-    pub dir: &'a str,
-}
+use std::{fmt, io};
 
 const HERE: Paths<'static> = Paths {
     file: "kept",
@@ -103,16 +97,9 @@ fn open_file(rt: &HostRuntime, path: &str) -> io::Result<File> {
     how.open(rt, path)
 }
 
-// Made aside and moved into place as a whole, so that there is never a part of it.
-// (The agent replaces its `life` likewise: what is written differs, and so does the directory, so one function would take five arguments.)
+// Made aside, so that there is never a part of it.
 fn make(rt: &HostRuntime, paths: Paths<'_>, aside: Result<&str, AllocError>) -> io::Result<()> {
-    let aside = aside?;
-    let file = File::create(rt, aside)?;
-    file.set_len(BYTES)?;
-    file.sync_all()?;
-    drop(file);
-    fs::rename(rt, aside, paths.file)?;
-    File::open(rt, paths.dir)?.sync_all()
+    replace(rt, paths, aside?, |file| file.set_len(BYTES))
 }
 
 fn read_all(file: &mut File, mirror: &mut [u64; WORDS]) -> io::Result<()> {

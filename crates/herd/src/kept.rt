@@ -1,5 +1,6 @@
 // The file `kept`: 262,144 words of eight bytes, made where there is none.
-use device::open::{OpenError, Paths, open_at};
+use device::open::{OpenError, open_at};
+use device::replace::Paths;
 use std::alloc::AllocError;
 use std::fs::File;
 use std::{fmt, io};
@@ -62,11 +63,7 @@ impl fmt::Display for Trouble {
 pub fn open(rt: &HostRuntime, dir: &str) -> Result<File, Trouble> {
     let file = format!(in rt.alloc(); "{dir}/kept")?;
     let aside = format!(in rt.alloc(); "{dir}/kept.new");
-    // By hand: `as_ref` would leave the error lent, to be copied out again.
-    let path = match &aside {
-        Ok(aside) => Ok(aside.as_str()),
-        Err(e) => Err(*e),
-    };
+    let path = aside.as_deref().map_err(|e| *e);
     let paths = Paths {
         file: file.as_str(),
         dir,
