@@ -118,11 +118,10 @@ weighed_more home ws ls ms w c m p k r e h =
     let l = get_or ls r e in
     let b = k r e h in
     let f = adds_few (num_at home r) w l in
-    let n : length (ws ++ w ∷ []) ≡ length ws + 1 = length-append ws (w ∷ []) in
-    (
+    let n : length (ws ++ w ∷ []) ≡ length ws + 1 = length-append ws (w ∷ []) in (
       p r e h ∙ ap (heavier (num_at home r) w) b.0 ∙ sym (put_more (num_at home r) no_load ws w),
       rw (p r e h, n) (omega (arith, f.0, b.1)),
-      rw (p r e h, n) (omega (arith, f.1, b.2))
+      rw (p r e h, n) (omega (arith, f.1, b.2)),
     )
 
 pub weighed_light : (home : List ℕ) (ws : List Weight) (ls : List Load) → length ws ≤ 2048 → Weighed home ws ls → (r : ℕ) (e : Load) → r < machine_rows_lem home → ((get_or ls r e).cpu < 1000000000000000) × ((get_or ls r e).mem < 1000000000000000)
@@ -155,8 +154,8 @@ module _ (job : s.Name) (home live : List ℕ) where
       let e : a + 1 ≡ suc a = omega arith in
       row_on k ts xs l (weights_of job home live (a + 1) n) (ts ++ (xs ++ span (task_at home live) (suc a) n)) b (row_few home live a)
       (λ m c.
-          subst (λ (ys : List s.Task). LoadBy job k ys (put_from k m (weights_of job home live (a + 1) n))) (append_assoc ts xs (span (task_at home live) (suc a) n))
-          (subst (λ (i : ℕ). LoadBy job k ((ts ++ xs) ++ span (task_at home live) i n) (put_from k m (weights_of job home live (a + 1) n))) e (loads_on k (a + 1) n (ts ++ xs) m c)))
+      subst (λ (ys : List s.Task). LoadBy job k ys (put_from k m (weights_of job home live (a + 1) n))) (append_assoc ts xs (span (task_at home live) (suc a) n))
+      (subst (λ (i : ℕ). LoadBy job k ((ts ++ xs) ++ span (task_at home live) i n) (put_from k m (weights_of job home live (a + 1) n))) e (loads_on k (a + 1) n (ts ++ xs) m c)))
       (weight_of job xs) refl
 
   pub weighed_all : (n : ℕ) (ls : List Load) → Weighed home (weights_of job home live 0 n) ls → Loaded job home (span (task_at home live) 0 n) ls

@@ -31,6 +31,6 @@ returns c =
     let home = c.args.home.now in
     let n = c.in_use.result in
     λ live.
-        let all = YieldsList-end (YieldsList-at c.into_iter-w-iterator.ensures.into_iter_gives (YieldsList-from_filter_map _ (λ i. weight_of job (task_at home live i)) (YieldsList-from_range 0 n n c.filter_map-w-items.ensures.source (omega arith)) c.filter_map-w-items.ensures.closure (λ x r q k. search (rules, tests)))) c.loop-w.yielded c.loop-w.w-iterator c.loop-w.yielded_by _ _ c.in-None.is c.next.ensures.steps in
-        subst (λ (k : ℕ). Loaded job home (span (task_at home live) 0 k) c.loop-w.loads) c.in_use.ensures.is
-        (weighed_all job home live n c.loop-w.loads (subst (λ (ws : List Weight). Weighed home ws c.loop-w.loads) (sym (map-id _) ∙ all.0) c.loop-w.invariant.2))
+    let all = YieldsList-end (YieldsList-at c.into_iter-w-iterator.ensures.into_iter_gives (YieldsList-from_filter_map _ (λ i. weight_of job (task_at home live i)) (YieldsList-from_range 0 n n c.filter_map-w-items.ensures.source (omega arith)) c.filter_map-w-items.ensures.closure (λ x r q k. search (rules, tests)))) c.loop-w.yielded c.loop-w.w-iterator c.loop-w.yielded_by _ _ c.in-None.is c.next.ensures.steps in
+    subst (λ (k : ℕ). Loaded job home (span (task_at home live) 0 k) c.loop-w.loads) c.in_use.ensures.is
+    (weighed_all job home live n c.loop-w.loads (subst (λ (ws : List Weight). Weighed home ws c.loop-w.loads) (sym (map-id _) ∙ all.0) c.loop-w.invariant.2))
