@@ -8,8 +8,9 @@ use crate::kept::WORDS;
 use crate::replace::{Paths, replace};
 use std::alloc::AllocError;
 use std::fs::{File, OpenOptions};
+use std::io;
 use std::io::{ErrorKind, Read};
-use std::{fmt, io};
+use thiserror::Error;
 
 const HERE: Paths<'static> = Paths {
     file: "kept",
@@ -20,36 +21,17 @@ const HERE: Paths<'static> = Paths {
 const BYTES: u64 = 2097152;
 
 // Why there is no kept memory.
-#[derive(Clone, Copy, Debug, Drop)]
+#[derive(Clone, Copy, Debug, Drop, Error)]
 pub enum OpenError {
     // The file is so many bytes long.
+    #[error("kept: {0} bytes, not 2097152: this is no kept memory; put back the right file, or move this one away to begin anew")]
     Length(u64),
+    #[error("kept: cannot be made: {0}; see that this directory can be written and has 2 MiB left")]
     Make(io::Error),
+    #[error("kept: cannot be opened: {0}; see that it is a file that may be read and written")]
     Open(io::Error),
+    #[error("kept: cannot be read: {0}; try again, and put back a copy if it stays so")]
     Read(io::Error),
-}
-
-impl fmt::Display for OpenError {
-    fn fmt<W: fmt::Write>(&self, f: &mut fmt::Formatter<W>) -> fmt::Result {
-        match self {
-            OpenError::Length(n) => write!(
-                f,
-                "kept: {n} bytes, not 2097152: this is no kept memory; put back the right file, or move this one away to begin anew"
-            ),
-            OpenError::Make(e) => write!(
-                f,
-                "kept: cannot be made: {e}; see that this directory can be written and has 2 MiB left"
-            ),
-            OpenError::Open(e) => write!(
-                f,
-                "kept: cannot be opened: {e}; see that it is a file that may be read and written"
-            ),
-            OpenError::Read(e) => write!(
-                f,
-                "kept: cannot be read: {e}; try again, and put back a copy if it stays so"
-            ),
-        }
-    }
 }
 
 // Opens the file and reads its words into the mirror. A file of another length is refused; where there is none it is made, all 0.

@@ -3,24 +3,26 @@ use device::open::{OpenError, open_at};
 use device::replace::Paths;
 use std::alloc::AllocError;
 use std::fs::File;
-use std::{fmt, io};
+use std::io;
+use thiserror::Error;
 
 // Why the herd does not go on. (The agent has its own: the texts, which programs fix, differ in all but two.)
-#[derive(Debug, Drop)]
+#[derive(Debug, Drop, Error)]
 pub enum Trouble {
+    #[error("too many arguments: say `herd`, or `herd DIR` with the directory of the file `kept`")]
     Usage,
-    Memory,
+    #[error("no memory to begin with")]
+    Memory(#[from(alloc)] AllocError),
+    #[error("the arguments cannot be read: {0}")]
     Arguments(io::Error),
+    #[error("`kept` cannot be opened: {0}; see that it is a file that may be read and written")]
     Open(io::Error),
+    #[error("`kept` is missing and cannot be made: {0}; see that its directory is there and may be written")]
     Make(io::Error),
+    #[error("`kept` has {0} bytes and not 2097152, so it is no kept memory; put the right file back, or move this one away to begin anew")]
     Length(u64),
+    #[error("lines cannot be read or answered any more: {0}")]
     Lines(io::Error),
-}
-
-impl From<AllocError> for Trouble {
-    fn from(_e: AllocError) -> Trouble {
-        Trouble::Memory
-    }
 }
 
 impl From<OpenError> for Trouble {
@@ -29,32 +31,6 @@ impl From<OpenError> for Trouble {
             OpenError::Length(n) => Trouble::Length(n),
             OpenError::Make(e) => Trouble::Make(e),
             OpenError::Open(e) | OpenError::Read(e) => Trouble::Open(e),
-        }
-    }
-}
-
-impl fmt::Display for Trouble {
-    fn fmt<W: fmt::Write>(&self, f: &mut fmt::Formatter<W>) -> fmt::Result {
-        match self {
-            Trouble::Usage => write!(
-                f,
-                "too many arguments: say `herd`, or `herd DIR` with the directory of the file `kept`"
-            ),
-            Trouble::Memory => write!(f, "no memory to begin with"),
-            Trouble::Arguments(e) => write!(f, "the arguments cannot be read: {e}"),
-            Trouble::Open(e) => write!(
-                f,
-                "`kept` cannot be opened: {e}; see that it is a file that may be read and written"
-            ),
-            Trouble::Make(e) => write!(
-                f,
-                "`kept` is missing and cannot be made: {e}; see that its directory is there and may be written"
-            ),
-            Trouble::Length(n) => write!(
-                f,
-                "`kept` has {n} bytes and not 2097152, so it is no kept memory; put the right file back, or move this one away to begin anew"
-            ),
-            Trouble::Lines(e) => write!(f, "lines cannot be read or answered any more: {e}"),
         }
     }
 }
