@@ -1,28 +1,32 @@
 // The file `life`, replaced as a whole: the next life is on the disk before anything bears it.
 use agents::life::{Unfit, first_life, life_bytes, next_life};
+use device::replace::{Paths, replace};
 use jobs::ids::{LAST, Life};
 use std::alloc::AllocError;
 use std::fs::File;
+use std::io;
 use std::io::{ErrorKind, Read, Write};
-use std::{fmt, fs, io};
+use thiserror::Error;
 
 // Why the agent does not go on.
-#[derive(Debug, Drop)]
+#[derive(Debug, Drop, Error)]
 pub enum Trouble {
+    #[error("say `agent MACHINE` or `agent MACHINE DIR`, with the machine's number, 0 to 65535, and the directory of the file `life`")]
     Usage,
-    Memory,
+    #[error("no memory to begin with")]
+    Memory(#[from(alloc)] AllocError),
+    #[error("the arguments cannot be read: {0}")]
     Arguments(io::Error),
+    #[error("`life` cannot be read: {0}; see that it is a file that may be read")]
     Open(io::Error),
+    #[error("the next life cannot be kept: {0}; see that the directory of `life` is there, may be written, and has room")]
     Keep(io::Error),
+    #[error("`life` is damaged, so it is not known which life comes next; put the right file back, or have the herd forget this machine, remove `life`, and add the machine under another number")]
     Damaged,
+    #[error("`life` says that the last life, {LAST}, was used; give this machine another number and a directory of its own")]
     Last,
+    #[error("lines cannot be read or printed any more: {0}")]
     Lines(io::Error),
-}
-
-impl From<AllocError> for Trouble {
-    fn from(_e: AllocError) -> Trouble {
-        Trouble::Memory
-    }
 }
 
 impl From<Unfit> for Trouble {
@@ -30,36 +34,6 @@ impl From<Unfit> for Trouble {
         match e {
             Unfit::Damaged => Trouble::Damaged,
             Unfit::Last => Trouble::Last,
-        }
-    }
-}
-
-impl fmt::Display for Trouble {
-    fn fmt<W: fmt::Write>(&self, f: &mut fmt::Formatter<W>) -> fmt::Result {
-        match self {
-            Trouble::Usage => write!(
-                f,
-                "say `agent MACHINE` or `agent MACHINE DIR`, with the machine's number, 0 to 65535, and the directory of the file `life`"
-            ),
-            Trouble::Memory => write!(f, "no memory to begin with"),
-            Trouble::Arguments(e) => write!(f, "the arguments cannot be read: {e}"),
-            Trouble::Open(e) => write!(
-                f,
-                "`life` cannot be read: {e}; see that it is a file that may be read"
-            ),
-            Trouble::Keep(e) => write!(
-                f,
-                "the next life cannot be kept: {e}; see that the directory of `life` is there, may be written, and has room"
-            ),
-            Trouble::Damaged => write!(
-                f,
-                "`life` is damaged, so it is not known which life comes next; put the right file back, or have the herd forget this machine, remove `life`, and add the machine under another number"
-            ),
-            Trouble::Last => write!(
-                f,
-                "`life` says that the last life, {LAST}, was used; give this machine another number and a directory of its own"
-            ),
-            Trouble::Lines(e) => write!(f, "lines cannot be read or printed any more: {e}"),
         }
     }
 }
@@ -90,21 +64,22 @@ fn next(rt: &HostRuntime, path: &str) -> Result<Life, Trouble> {
     }
 }
 
-// Written aside, synced, moved into place, and the directory synced.
-fn keep(rt: &HostRuntime, dir: &str, path: &str, life: Life) -> io::Result<()> {
-    let aside = format!(in rt.alloc(); "{dir}/life.new")?;
-    let mut file = File::create(rt, aside.as_str())?;
-    file.write_all(&life_bytes(life))?;
-    file.sync_all()?;
-    drop(file);
-    fs::rename(rt, aside.as_str(), path)?;
-    File::open(rt, dir)?.sync_all()
+// On the disk, before anything bears it.
+fn keep(rt: &HostRuntime, paths: Paths<'_>, life: Life) -> io::Result<()> {
+    let aside = format!(in rt.alloc(); "{}/life.new", paths.dir)?;
+    replace(rt, paths, aside.as_str(), |file| {
+        file.write_all(&life_bytes(life))
+    })
 }
 
 // A life that was never used, once it is on the disk.
 pub fn rise(rt: &HostRuntime, dir: &str) -> Result<Life, Trouble> {
     let path = format!(in rt.alloc(); "{dir}/life")?;
     let life = next(rt, path.as_str())?;
-    keep(rt, dir, path.as_str(), life).map_err(Trouble::Keep)?;
+    let paths = Paths {
+        file: path.as_str(),
+        dir,
+    };
+    keep(rt, paths, life).map_err(Trouble::Keep)?;
     Ok(life)
 }

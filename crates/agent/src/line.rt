@@ -1,29 +1,22 @@
 // A line of text as it comes, of any length: no more of it is held than could be meant.
 use std::alloc::{AllocFailed, Global};
-use std::fmt;
+use thiserror::Error;
 
 // The longest line that says anything: an answer with 65,535 orders of eight tags each.
 const ROOM: usize = 7_077_845;
 
 // Why a line is not held.
-#[derive(Clone, Copy, Debug, PartialEq, Eq)]
+#[derive(Clone, Copy, Debug, PartialEq, Eq, Error)]
 pub enum Fault {
+    #[error("it is longer than any that says something")]
     TooLong,
+    #[error("no memory to hold it")]
     NoMemory,
 }
 
 impl<T: Drop> From<AllocFailed<T>> for Fault {
     fn from(_e: AllocFailed<T>) -> Fault {
         Fault::NoMemory
-    }
-}
-
-impl fmt::Display for Fault {
-    fn fmt<W: fmt::Write>(&self, f: &mut fmt::Formatter<W>) -> fmt::Result {
-        match self {
-            Fault::TooLong => write!(f, "it is longer than any that says something"),
-            Fault::NoMemory => write!(f, "no memory to hold it"),
-        }
     }
 }
 
@@ -72,11 +65,7 @@ impl Line {
         }
     }
 
-    // (By hand: `as_ref` would leave both lent, to be taken out again.)
     pub fn text(&self) -> Result<&[u8], Fault> {
-        match &self.held {
-            Ok(text) => Ok(text.as_slice()),
-            Err(fault) => Err(*fault),
-        }
+        self.held.as_deref().map_err(|fault| *fault)
     }
 }

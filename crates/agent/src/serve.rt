@@ -44,7 +44,7 @@ fn answer(rt: &HostRuntime, agent: &mut Agent, digits: &[u8]) -> Result<(), Skip
 
 // What died is started again, if it is ordered.
 fn dies(rt: &HostRuntime, agent: &mut Agent, task: TaskId) -> Result<(), Skipped> {
-    agent.die(task).map_err(Skipped::Dies)?;
+    agent.die(task).map_err(|why| Skipped::Dies(task, why))?;
     let deeds = agent.start(rt.alloc()).map_err(|_| Skipped::Start)?;
     carry_out(rt, deeds.as_slice())?;
     Ok(())
@@ -54,7 +54,9 @@ fn follow(rt: &HostRuntime, agent: &mut Agent, line: &Line) -> Result<(), Skippe
     match meaning(line.text()?).ok_or(Skipped::Meaningless)? {
         Said::Report => report(rt, agent),
         Said::Answer(digits) => answer(rt, agent, digits),
-        Said::Ready(task) => agent.mark(task, true).map_err(Skipped::Ready),
+        Said::Ready(task) => agent
+            .mark(task, true)
+            .map_err(|why| Skipped::Ready(task, why)),
         Said::Dies(task) => dies(rt, agent, task),
     }
 }

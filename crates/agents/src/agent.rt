@@ -8,7 +8,7 @@ use crate::head::Head;
 use crate::order::Seen;
 use jobs::ids::{LAST, TaskId};
 use std::alloc::AllocError;
-use std::fmt;
+use thiserror::Error;
 use wire::reply::Order;
 use wire::unread::Unread;
 
@@ -44,9 +44,11 @@ impl Agent {
 }
 
 // Why a report is not sent.
-#[derive(Clone, Copy, Debug, PartialEq, Eq)]
+#[derive(Clone, Copy, Debug, PartialEq, Eq, Error)]
 pub enum Unsent {
+    #[error("number {LAST} was the last of this life; start the agent anew")]
     Last,
+    #[error("no memory for it; ask again")]
     NoMemory,
 }
 
@@ -58,26 +60,18 @@ impl From<AllocError> for Unsent {
     }
 }
 
-impl fmt::Display for Unsent {
-    fn fmt<W: fmt::Write>(&self, f: &mut fmt::Formatter<W>) -> fmt::Result {
-        match self {
-            Unsent::Last => write!(
-                f,
-                "number {LAST} was the last of this life; start the agent anew"
-            ),
-            Unsent::NoMemory => write!(f, "no memory for it; ask again"),
-        }
-    }
-}
-
 // Why what came is passed over.
-#[derive(Clone, Copy, Debug, PartialEq, Eq)]
+#[derive(Clone, Copy, Debug, PartialEq, Eq, Error)]
 pub enum Passed {
+    #[error("it is no answer to a report")]
     NoAnswer,
     // By its number, and not a `Refusal`: any byte may come.
+    #[error("the herd turned a call away by {0}")]
     Refused(u8),
     // It answers another report than the last, or another machine's or life's.
+    #[error("it doesn't answer the last report of this life")]
     NotLast,
+    #[error("no memory to obey it; report again")]
     NoMemory,
 }
 
@@ -100,23 +94,7 @@ impl From<Unread> for Passed {
     }
 }
 
-impl fmt::Display for Passed {
-    fn fmt<W: fmt::Write>(&self, f: &mut fmt::Formatter<W>) -> fmt::Result {
-        match self {
-            Passed::NoAnswer => write!(f, "it is no answer to a report"),
-            Passed::Refused(number) => write!(f, "the herd turned a call away by {number}"),
-            Passed::NotLast => write!(f, "it doesn't answer the last report of this life"),
-            Passed::NoMemory => write!(f, "no memory to obey it; report again"),
-        }
-    }
-}
-
 // A task that was said to be ready or dead, and doesn't run here.
-#[derive(Clone, Copy, Debug, PartialEq, Eq)]
+#[derive(Clone, Copy, Debug, PartialEq, Eq, Error)]
+#[error("{0} doesn't run here")]
 pub struct NotRunning(pub TaskId);
-
-impl fmt::Display for NotRunning {
-    fn fmt<W: fmt::Write>(&self, f: &mut fmt::Formatter<W>) -> fmt::Result {
-        write!(f, "{} doesn't run here", self.0)
-    }
-}

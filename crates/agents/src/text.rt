@@ -11,7 +11,7 @@ use jobs::ids::TaskId;
 use lines::decimal::more;
 use lines::hex::digit;
 use std::alloc::{AllocError, AllocFailed, Global};
-use std::fmt;
+use thiserror::Error;
 
 fn push_byte(text: &mut Vec<u8>, byte: u8) -> Result<(), AllocError>
     ensures { OnOk result (text.new.items ≡ text.old.items ++ (digit_char (byte / 16) ∷ digit_char (byte % 16) ∷ [])) }
@@ -40,9 +40,11 @@ pub enum Said<'a> {
 }
 
 // Why digits are no bytes.
-#[derive(Clone, Copy, Debug, PartialEq, Eq)]
+#[derive(Clone, Copy, Debug, PartialEq, Eq, Error)]
 pub enum Unhexed {
+    #[error("an even number of hexadecimal digits should stand behind the word")]
     Garbled,
+    #[error("no memory to read it; report again")]
     NoMemory,
 }
 
@@ -51,18 +53,6 @@ impl<T: Drop> From<AllocFailed<T>> for Unhexed {
 
     fn from(_e: AllocFailed<T>) -> Unhexed {
         Unhexed::NoMemory
-    }
-}
-
-impl fmt::Display for Unhexed {
-    fn fmt<W: fmt::Write>(&self, f: &mut fmt::Formatter<W>) -> fmt::Result {
-        match self {
-            Unhexed::Garbled => write!(
-                f,
-                "an even number of hexadecimal digits should stand behind the word"
-            ),
-            Unhexed::NoMemory => write!(f, "no memory to read it; report again"),
-        }
     }
 }
 

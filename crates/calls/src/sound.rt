@@ -60,7 +60,7 @@ fn sound_tasks(home: &[u64]) -> bool
     ensures { result ≡ sound_tasks_lem (at home.now 0) (tasks_of home.now []) }
 {
     let mut last = 0;
-    // A loop: holes lie between, and a chain that carries the last number would change what its closure holds.
+    // A loop: holes lie between, and `filter` with `try_fold`, which carries the last number, would be as long.
     for i in 0..TASKS.in_use(home) {
         let id = TASKS.row(home, i).words[0];
         if id != 0 {

@@ -8,3 +8,4 @@ pub mod Allowed
 pub mod Served
 pub mod Telling
 pub mod Counted
+mod Words

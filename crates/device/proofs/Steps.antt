@@ -1,32 +1,39 @@
 -- The code of a change, step by step along its doing.
 -- Assumes nothing.
-use Rattle.std.proofs.Common.{◌≡◌, ℕ, ◌+◌, ◌<◌, ◌≤◌, Bool, false, cond, eqb, List, ◌∷◌, length, get_or, drop, Result, sym, ap, ◌∙◌, arith}
+use Rattle.std.proofs.Common.{◌≡◌, ℕ, suc, ◌+◌, ◌<◌, ◌≤◌, ◌==◌, Bool, false, cond, not, eqb, List, [], ◌∷◌, length, filter, get_or, drop, Result, sym, refl, ap, subst, ◌∙◌, inl, inr, arith}
 use Rattle.std.proofs.lemmas.Result.{MatchResult-weaker}
 use Rattle.std.proofs.lemmas.List.{drop_more, drop_all}
-use Rattle.std.proofs.lemmas.Bool.{le-leb, lt-leb, eq-eqb, ne_eqb, cond-true, cond-false}
-use Rattle.model.specs.Memory.{Memory, Doing, done, store, comes_to, leaves}
+use Rattle.std.proofs.lemmas.Bool.{cases_Bool, le-leb, lt-leb, eq-eqb, ne_eqb, cond-true, cond-false}
+use Rattle.std.specs.List.{enumerate_from}
+use Rattle.model.specs.Memory.{Memory, Doing, done, load, store, comes_to, leaves}
 use Rattle.device.specs.Follows.{Ended, Follows, and_then}
 use Rattle.device.specs.Halves.{held_at, spare_at, turned, differs, copies, deciding, commits}
 use Rattle.device.specs.Service.{keeping}
 use Rattle.device.proofs.Doings.{Leads, leads_here, leads_load, leads_as, leads_part, leads_done}
 
--- one word looked at
-module _ {p : Doing ℕ} {m : Memory} (from i n : ℕ) (ws : List ℕ) (o : Memory) (v : ℕ) (l : Leads p m (differs (from + i) n (drop i ws)) o) (lt : i < length ws) (is : v ≡ o (from + i)) where
-  loaded_n : Leads p m (cond (eqb v (get_or ws i 0)) (differs (from + i + 1) n (drop (i + 1) ws)) (differs (from + i + 1) (n + 1) (drop (i + 1) ws))) o
-  unfolding differs
-  loaded_n =
-      leads_load (from + i) (λ v. cond (eqb v (get_or ws i 0)) (differs (from + i + 1) n (drop (i + 1) ws)) (differs (from + i + 1) (n + 1) (drop (i + 1) ws))) o v
-      (leads_as (differs (from + i) n (get_or ws i 0 ∷ drop (i + 1) ws)) l (ap (differs (from + i) n) (drop_more ws i 0 lt))) is
+-- all words looked at
+loaded : (k : ℕ → Doing ℕ) (a : ℕ) (m : Memory) (n : ℕ) → Ended (k (m a)) m n m → Ended (load a k) m n m
+unfolding comes_to leaves
+loaded k a m n d = record { comes = d.comes; left = d.left }
 
-  pub differs_same : v ≡ get_or ws i 0 → Leads p m (differs (from + (i + 1)) n (drop (i + 1) ws)) o
-  differs_same e = let s : from + i + 1 ≡ from + (i + 1) = omega arith in leads_as _ loaded_n (cond-true _ _ _ (eq-eqb _ _ e) ∙ ap (λ (x : ℕ). differs x n (drop (i + 1) ws)) s)
+abbrev others : Memory → ℕ → ℕ → List ℕ → ℕ
+others m from i ws = length (filter (λ (p : ℕ × ℕ). not (m (from + p.0) == p.1)) (enumerate_from i ws))
 
-  pub differs_other : (v ≡ get_or ws i 0 → ⊥) → Leads p m (differs (from + (i + 1)) (n + 1) (drop (i + 1) ws)) o
-  differs_other ne = let s : from + i + 1 ≡ from + (i + 1) = omega arith in leads_as _ loaded_n (cond-false _ _ _ (ne_eqb _ _ ne) ∙ ap (λ (x : ℕ). differs x (n + 1) (drop (i + 1) ws)) s)
+-- where n before them differed
+differs_on : (m : Memory) (from i n : ℕ) (ws : List ℕ) → Ended (differs (from + i) n ws) m (n + others m from i ws) m
+unfolding differs comes_to leaves
+differs_on m from i n [] = let e : n + 0 ≡ n = omega arith in rw e (record { comes = refl; left = refl })
+differs_on m from i n (w ∷ ws) =
+    let k : ℕ → Doing ℕ = λ v. cond (v == w) (differs (from + i + 1) n ws) (differs (from + i + 1) (n + 1) ws) in
+    let s : from + i + 1 ≡ from + (i + 1) = omega arith in
+    let t : n + suc (others m from (i + 1) ws) ≡ n + 1 + others m from (i + 1) ws = omega arith in
+    loaded k (from + i) m _ (elim (cases_Bool (m (from + i) == w)) [ inl e ↦ rw (e, s) (differs_on m from (i + 1) n ws) | inr e ↦ rw (e, s, t) (differs_on m from (i + 1) (n + 1) ws) ])
 
-pub differs_end : (a i n : ℕ) (ws : List ℕ) → length ws ≤ i → differs a n (drop i ws) ≡ done n
-unfolding differs
-differs_end a i n ws h = ap (differs a n) (drop_all i ws h)
+pub differs_all : (m : Memory) (from n : ℕ) (ws : List ℕ) → n ≡ length (filter (λ (p : ℕ × ℕ). not (m (from + p.0) == p.1)) (enumerate_from 0 ws)) → Ended (differs from 0 ws) m n m
+differs_all m from n ws e =
+    let z : from + 0 ≡ from = omega arith in
+    let o : 0 + others m from 0 ws ≡ n = omega (arith, e) in
+    subst (λ (a : ℕ). Ended (differs a 0 ws) m n m) z (subst (λ (r : ℕ). Ended (differs (from + 0) 0 ws) m r m) o (differs_on m from 0 0 ws))
 
 -- one word copied
 module _ {p : Doing (Unit {0})} {m : Memory} (from i : ℕ) (ws : List ℕ) (o : Memory) (v : ℕ) (l : Leads p m (copies (from + i) (drop i ws)) o) (lt : i < length ws) (is : v ≡ o (from + i)) where

@@ -1,20 +1,20 @@
-// Kept words in memory that is lent, where the power fails after so many stores.
-ghost use Rattle.std.specs.Prelude.{◌≡◌, ◌+◌, ◌<◌, length, MatchResult, slice_index, slice_set};
+// Kept words where the power fails after so many stores.
+ghost use Rattle.std.specs.Prelude.{◌≡◌, ◌+◌, ◌<◌, MatchResult};
+ghost use Rattle.model.specs.Memory.{stored};
 
-use crate::kept::{Dark, Kept, WORDS};
+use crate::kept::{Dark, Kept};
 
 #[derive(Drop)]
-pub struct Fused<'a> {
-    words: &'a mut [u64],
+pub struct Fused<K> {
+    kept: K,
     left: u64,
-    ghost all: { length words.now ≡ 262144 },
 }
 
-impl Kept for Fused<'_> {
-    ghost word = { λ s a. slice_index s.words.now a };
+impl<K: Kept> Kept for Fused<K> {
+    ghost word = { λ s. K.word s.kept };
 
     fn load(&self, at: usize) -> u64 {
-        self.words[at]
+        self.kept.load(at)
     }
 
     fn store(&mut self, at: usize, w: u64) -> Result<(), Dark> {
@@ -22,15 +22,12 @@ impl Kept for Fused<'_> {
     }
 }
 
-impl<'a> Fused<'a> {
+impl<K: Kept> Fused<K> {
     // Dark after so many stores.
-    pub fn new(words: &'a mut [u64; WORDS], stores: u64) -> Self
-        ensures { (result.words.now ≡ words.old) × (result.left ≡ stores) }
+    pub fn new(kept: K, stores: u64) -> Self
+        ensures { (result.kept ≡ kept) × (result.left ≡ stores) }
     {
-        Fused {
-            words,
-            left: stores,
-        }
+        Fused { kept, left: stores }
     }
 
     // How many more stores there are.
@@ -43,13 +40,12 @@ impl<'a> Fused<'a> {
     // One store less; where none is left nothing is stored any more.
     fn put(&mut self, at: usize, w: u64) -> Result<(), Dark>
         requires { at < 262144 }
-        ensures { MatchResult result (λ _. (self.old.left ≡ self.new.left + 1) × (self.new.words.now ≡ slice_set self.old.words.now at w)) (λ _. (self.old.left ≡ 0) × (self.new.left ≡ 0) × (self.new.words.now ≡ self.old.words.now)) }
+        ensures { MatchResult result (λ _. (self.old.left ≡ self.new.left + 1) × (K.word self.new.kept ≡ stored at w (K.word self.old.kept))) (λ _. K.word self.new.kept ≡ K.word self.old.kept) }
     {
         if self.left == 0 {
             return Err(Dark);
         }
         self.left -= 1;
-        self.words[at] = w;
-        Ok(())
+        self.kept.store(at, w)
     }
 }

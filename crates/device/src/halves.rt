@@ -42,14 +42,10 @@ fn differ<K: Kept>(words: &K, from: usize, home: &[u64]) -> usize
     requires { from + length home.now ≤ 262144 }
     ensures { Ended (differs from 0 home.now) (K.word words.now) result (K.word words.now) }
 {
-    let mut n = 0;
-    // A loop: in generic code a closure would need clauses of its own, so `filter` and `count` are no plainer.
-    for (i, word) in home.iter().enumerate() {
-        if words.load(from + i) != *word {
-            n += 1;
-        }
-    }
-    n
+    home.iter()
+        .enumerate()
+        .filter(|(i, word)| words.load(from + *i) != **word)
+        .count()
 }
 
 // Stores each word that differs: in the half that holds, or in the other, which nothing looks at yet.

@@ -1,4 +1,4 @@
-// Kept words in memory that is lent. (`Fused` would need a number of stores that is never used up.)
+// Kept words in memory that is lent.
 ghost use Rattle.std.specs.Prelude.{◌≡◌, length, slice_index};
 
 use crate::kept::{Dark, Kept, WORDS};

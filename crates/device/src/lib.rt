@@ -1,7 +1,7 @@
 // The memory that a battery keeps, and changes of it that are done as a whole or not at all, wherever the power fails.
 //
-// `kept` has the words as a trait; `lent`, `fused` and `filed` are its ends: words in memory, the same with the power
-// failing after so many stores, and the file `kept`, which `open` opens or makes. `halves` changes the home words in two halves that
+// `kept` has the words as a trait; `lent` and `filed` are its ends: words in memory, and the file `kept`, which `open` opens or makes; in `fused`
+// the power fails after so many stores. `halves` changes the home words in two halves that
 // take turns, on any of them. Each function says which doing it carries out, to its end or cut in it.
 // A service by pure functions that keeps its home words so is right in every run: `counter` is the smallest.
 #![tactic(auto)]
@@ -14,6 +14,7 @@ pub mod halves;
 pub mod kept;
 pub mod lent;
 pub mod open;
+pub mod replace;
 
 #[cfg(test)]
 mod tests {
@@ -24,7 +25,7 @@ mod tests {
     // Adds 5 and then 7, with the power failing after so many stores, and shows the sum that wakes.
     fn cut(stores: u64) -> u64 {
         let mut words = [0u64; 262144];
-        let mut device = Fused::new(&mut words, stores);
+        let mut device = Fused::new(Lent::new(&mut words), stores);
         let mut counter = Counter::wake(&device);
         if counter.answer(&mut device, Ask::Add(5)).is_ok() {
             let _ = counter.answer(&mut device, Ask::Add(7));
@@ -52,7 +53,7 @@ mod tests {
     #[test]
     fn stores(rt: HostRuntime) {
         let mut words = [0u64; 262144];
-        let mut device = Fused::new(&mut words, 100);
+        let mut device = Fused::new(Lent::new(&mut words), 100);
         let mut counter = Counter::wake(&device);
         let _ = counter.answer(&mut device, Ask::Add(5));
         assert_eq!(rt; device.left(), 97);

@@ -5,52 +5,28 @@ ghost use Rattle.device.specs.Opens.{IsFair};
 use crate::bytes::decode;
 use crate::filed::Filed;
 use crate::kept::WORDS;
+use crate::replace::{Paths, replace};
 use std::alloc::AllocError;
 use std::fs::{File, OpenOptions};
+use std::io;
 use std::io::{ErrorKind, Read};
-use std::{fmt, fs, io};
-
-// Where the file is, and its directory.
-#[derive(Clone, Copy)]
-pub struct Paths<'a> {
-    pub file: &'a str,
-    pub dir: &'a str,
-}
+use thiserror::Error;
 
 // Eight bytes for each of 262,144 words.
 const BYTES: u64 = 2097152;
 
 // Why there is no kept memory.
-#[derive(Clone, Copy, Debug, Drop)]
+#[derive(Clone, Copy, Debug, Drop, Error)]
 pub enum OpenError {
     // The file is so many bytes long.
+    #[error("kept: {0} bytes, not 2097152: this is no kept memory; put back the right file, or move this one away to begin anew")]
     Length(u64),
+    #[error("kept: cannot be made: {0}; see that its directory is there, can be written and has 2 MiB left")]
     Make(io::Error),
+    #[error("kept: cannot be opened: {0}; see that it is a file that may be read and written")]
     Open(io::Error),
+    #[error("kept: cannot be read: {0}; try again, and put back a copy if it stays so")]
     Read(io::Error),
-}
-
-impl fmt::Display for OpenError {
-    fn fmt<W: fmt::Write>(&self, f: &mut fmt::Formatter<W>) -> fmt::Result {
-        match self {
-            OpenError::Length(n) => write!(
-                f,
-                "kept: {n} bytes, not 2097152: this is no kept memory; put back the right file, or move this one away to begin anew"
-            ),
-            OpenError::Make(e) => write!(
-                f,
-                "kept: cannot be made: {e}; see that its directory is there, can be written and has 2 MiB left"
-            ),
-            OpenError::Open(e) => write!(
-                f,
-                "kept: cannot be opened: {e}; see that it is a file that may be read and written"
-            ),
-            OpenError::Read(e) => write!(
-                f,
-                "kept: cannot be read: {e}; try again, and put back a copy if it stays so"
-            ),
-        }
-    }
 }
 
 // Opens the file, or makes it, as `open_at` does, and reads its words into the mirror.
@@ -105,16 +81,9 @@ fn open_file(rt: &HostRuntime, path: &str) -> io::Result<File> {
     how.open(rt, path)
 }
 
-// Made aside and moved into place as a whole, so that there is never a part of it.
-// (The agent replaces its `life` likewise: what is written differs, and so does the directory, so one function would take five arguments.)
+// Made aside, so that there is never a part of it.
 fn make(rt: &HostRuntime, paths: Paths<'_>, aside: Result<&str, AllocError>) -> io::Result<()> {
-    let aside = aside?;
-    let file = File::create(rt, aside)?;
-    file.set_len(BYTES)?;
-    file.sync_all()?;
-    drop(file);
-    fs::rename(rt, aside, paths.file)?;
-    File::open(rt, paths.dir)?.sync_all()
+    replace(rt, paths, aside?, |file| file.set_len(BYTES))
 }
 
 fn read_all(file: &mut File, mirror: &mut [u64; WORDS]) -> io::Result<()> {

@@ -7,7 +7,8 @@ mod trouble;
 use calls::mind::Mind;
 use device::filed::Filed;
 use device::kept::WORDS;
-use device::open::{Paths, open};
+use device::open::open;
+use device::replace::Paths;
 use serve::serve;
 use serving::wake::wake;
 use std::env;
@@ -33,11 +34,7 @@ fn kept<'a>(
 ) -> Result<Filed<'a>, Trouble> {
     let file = format!(in rt.alloc(); "{dir}/kept")?;
     let aside = format!(in rt.alloc(); "{dir}/kept.new");
-    // By hand: `as_ref` would leave the error lent, to be copied out again.
-    let path = match &aside {
-        Ok(aside) => Ok(aside.as_str()),
-        Err(e) => Err(*e),
-    };
+    let path = aside.as_deref().map_err(|e| *e);
     let paths = Paths {
         file: file.as_str(),
         dir,

@@ -1,15 +1,16 @@
 -- What the dark takes, what there is at first, and sums over jobs.
 -- Assumes nothing.
-use Rattle.std.proofs.Common.{◌≡◌, ℕ, ◌+◌, ◌%◌, ◌<◌, ◌≤◌, min, Bool, true, false, cond, not, eqb, List, [], ◌∷◌, ◌++◌, map, length, set, sym, refl, ap, ◌∙◌, inl, inr, arith}
+use Rattle.std.proofs.Common.{◌≡◌, ℕ, zero, suc, ◌+◌, ◌%◌, ◌<◌, ◌≤◌, min, Bool, true, false, cond, not, eqb, List, [], ◌∷◌, ◌++◌, map, length, set, sym, refl, ap, ◌∙◌, inl, inr, arith}
 use Rattle.std.proofs.lemmas.Bool.{cases_Bool, cases_eq, cases_lt}
 use Rattle.std.proofs.lemmas.List.{get_or-set_same, get_or-set_other, get_or_past}
+use Rattle.std.specs.List.{fold, range_with_len, sum_by}
 use Rattle.model.specs.Lists.{keep}
 use Rattle.model.specs.State as s
 use Rattle.model.specs.State.{blank, is_job}
 use Rattle.model.specs.Calls.{down, unheard, unready, all_most, others}
 use Rattle.jobs.specs.Rows.{at, span}
 use Rattle.jobs.specs.Tables.{task_from, task_slot, task_at, task_row_lem, task_rows_lem, tasks_of, machine_slot, machine_at, machine_row_lem, machine_rows_lem, machines_of, job_at, job_from_lem, job_slot, jobs_of, state_of}
-use Rattle.jobs.proofs.Spans.{span_none, span_same, span_more}
+use Rattle.jobs.proofs.Spans.{span_none, span_same}
 use Rattle.jobs.proofs.MoveLaws.{span_map}
 use Rattle.jobs.proofs.Finds.{slot_hole, slot_full}
 
@@ -61,12 +62,20 @@ most_one n r true e t = sym (ap (λ (xs : List s.Job). all_most (others n xs)) (
 most_one n r false e t = sym (ap (λ (xs : List s.Job). all_most (others n xs)) (slot_full (at r 0) (job_from_lem r) e) ∙ rw t (omega arith))
 
 module _ (n : s.Name) (f : ℕ → List s.Job) where
-  pub most_none : 0 ≡ all_most (others n (span f 0 0))
-  unfolding all_most keep
-  most_none = sym (ap (λ (xs : List s.Job). all_most (others n xs)) (span_none f 0))
+  most_first : (a m : ℕ) → all_most (others n (span f a (suc m))) ≡ all_most (others n (f a)) + all_most (others n (span f (a + 1) m))
+  unfolding span
+  most_first a m =
+      let e : suc a ≡ a + 1 = omega arith in
+      ap all_most (keep_append (λ (j : s.Job). not (is_job n j)) (f a) (span f (suc a) m)) ∙ most_append (others n (f a)) (others n (span f (suc a) m)) ∙ ap (λ (k : ℕ). all_most (others n (f a)) + all_most (others n (span f k m))) e
 
-  pub most_more : (i v m : ℕ) → v ≡ all_most (others n (span f 0 i)) → m ≡ all_most (others n (f i)) → v + m ≡ all_most (others n (span f 0 (i + 1)))
-  most_more i v m h e = sym (ap (λ (ys : List s.Job). all_most (others n ys)) (span_more f i) ∙ ap all_most (keep_append (λ (j : s.Job). not (is_job n j)) (span f 0 i) (f i)) ∙ most_append (others n (span f 0 i)) (others n (f i)) ∙ omega (arith, h, e))
+  -- the rows from a on, added to c
+  most_from : (c a m : ℕ) → fold (λ k i. k + all_most (others n (f i))) c (range_with_len a m) ≡ c + all_most (others n (span f a m))
+  unfolding all_most keep span
+  most_from c a zero = let e : c ≡ c + 0 = omega arith in e
+  most_from c a (suc m) = most_from (c + all_most (others n (f a))) (a + 1) m ∙ omega (arith, most_first a m)
+
+  pub most_sum : (m : ℕ) → sum_by (λ i. all_most (others n (f i))) (range_with_len 0 m) ≡ all_most (others n (span f 0 m))
+  most_sum m = let e : 0 + all_most (others n (span f 0 m)) ≡ all_most (others n (span f 0 m)) = omega arith in most_from 0 0 m ∙ e
 
 -- all words are 0
 pub clear_more : (ws : List ℕ) (i : ℕ) → ((k : ℕ) → k < i → at ws k ≡ 0) → i < length ws → (k : ℕ) → k < i + 1 → at (set ws i 0) k ≡ 0

@@ -1,8 +1,10 @@
 -- Names, byte by byte.
 -- Assumes nothing.
-use Rattle.std.proofs.Common.{◌≡◌, ℕ, suc, ◌<◌, true, false, List, [], ◌∷◌, length, get_or, take, drop, sym, refl, ap, ◌∙◌, inl, inr, arith}
-use Rattle.std.proofs.lemmas.List.FromFn.{length-map-range_with_len, get_or-map-range_with_len}
+use Rattle.std.proofs.Common.{◌≡◌, ℕ, suc, ◌+◌, ◌<◌, Bool, true, false, List, [], ◌∷◌, length, get_or, take, drop, sym, refl, ap, subst, ◌∙◌, inl, inr, arith}
+use Rattle.std.proofs.lemmas.List.FromFn.{get_or-range_with_len, length-range_with_len, length-map-range_with_len, get_or-map-range_with_len}
 use Rattle.std.proofs.lemmas.List.{ext_get_or, get_or-drop, length-drop, take_all}
+use Rattle.std.specs.Bool.{MatchBool}
+use Rattle.std.specs.List.{AllWithin, HoldsAt, range_with_len}
 use Rattle.model.specs.Lists.{same}
 use Rattle.model.proofs.Lists.Tests.{bool}
 use Rattle.model.proofs.Tasks.Names.{same_eq, eq_same}
@@ -30,6 +32,14 @@ module _ (xs : List ℕ) (n : ℕ) (ws : List ℕ) where
 
   pub same_bytes : length xs ≡ n → ((k : ℕ) → k < length xs → get_or xs k 0 ≡ byte_at ws k) → same xs (bytes_of n ws) ≡ true
   same_bytes l e = eq_same _ _ (ext_get_or 0 _ _ (l ∙ sym (length_bytes n ws)) (λ k h. e k h ∙ sym (get_d_bytes n ws k (omega arith))))
+
+  place : (k : ℕ) → k < length xs → get_or (range_with_len 0 (length xs)) k 0 ≡ k
+  place k b = let e : 0 + k ≡ k = omega arith in get_or-range_with_len 0 (length xs) k 0 b ∙ e
+
+  -- as `all` answers of each byte
+  pub same_by : (r : Bool) → length xs ≡ n → MatchBool r (AllWithin (λ k. get_or xs k 0 ≡ byte_at ws k) (range_with_len 0 (length xs)) 0 (length (range_with_len 0 (length xs)))) ((i : ℕ) × (i < length (range_with_len 0 (length xs))) × HoldsAt (λ k. get_or xs k 0 ≡ byte_at ws k → ⊥) (range_with_len 0 (length xs)) i) → r ≡ same xs (bytes_of n ws)
+  same_by true l h = sym (same_bytes l (λ k b. subst (λ (j : ℕ). get_or xs j 0 ≡ byte_at ws j) (place k b) (h k 0 (omega arith) (omega (arith, length-range_with_len 0 (length xs))))))
+  same_by false l h = let b : h.0 < length xs = omega (arith, h.1, length-range_with_len 0 (length xs)) in sym (other_byte h.0 l b (subst (λ (j : ℕ). get_or xs j 0 ≡ byte_at ws j → ⊥) (place h.0 b) (h.2 0)))
 
 pub eight : (xs : List ℕ) → length xs ≡ 8 → at xs 0 ∷ at xs 1 ∷ at xs 2 ∷ at xs 3 ∷ at xs 4 ∷ at xs 5 ∷ at xs 6 ∷ at xs 7 ∷ [] ≡ xs
 eight [] h = absurd (omega (arith, h))

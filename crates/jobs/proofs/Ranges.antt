@@ -4,7 +4,7 @@ use Rattle.std.proofs.Common.{◌≡◌, ℕ, zero, suc, ◌+◌, ◌<◌, ◌�
 use Rattle.std.proofs.lemmas.List.{length-append}
 use Rattle.std.proofs.lemmas.Bool.{cases_Bool, eqb-true, eqb-false, true≢false}
 use Rattle.model.specs.Lists.{find, some}
-use Rattle.jobs.specs.Rows.{at, row_at, span, entry_at}
+use Rattle.jobs.specs.Rows.{span}
 use Rattle.jobs.specs.Tables.{FoundAt}
 use Rattle.jobs.proofs.Finds.{find_start, find_hole, find_other, find_this}
 
@@ -13,13 +13,6 @@ pub span_long : {X Y : Type 0} (f : ℕ → List X) (g : ℕ → List Y) → ((k
 unfolding span
 span_long f g e a zero = refl
 span_long f g e a (suc n) = length-append (f a) (span f (suc a) n) ∙ (let p = e a in let q = span_long f g e (suc a) n in omega arith) ∙ sym (length-append (g a) (span g (suc a) n))
-
-module _ (b w : ℕ) (ws fs : List ℕ) (i : ℕ) where
-  pub entry_hole : (at (row_at b w ws i) 0 == 0) ≡ true → entry_at b w ws fs i ≡ []
-  entry_hole e = rw e
-
-  pub entry_full : (at (row_at b w ws i) 0 == 0) ≡ false → entry_at b w ws fs i ≡ record { row = row_at b w ws i; flag = at fs i } ∷ []
-  entry_full e = rw e
 
 -- a row that begins with 0 stands for nothing, another for one, whatever that is
 pub one_or_none : {X Y : Type 0} (h : Bool) (x : X) (y : Y) → length (cond h [] (x ∷ [])) ≡ length (cond h [] (y ∷ []))

@@ -1,11 +1,13 @@
 -- Changes of jobs, and of machines, and what they leave alone.
 -- Assumes nothing.
-use Rattle.std.proofs.Common.{◌≡◌, ℕ, ◌+◌, ◌-◌, ◌*◌, ◌<◌, ◌≤◌, min, List, ◌++◌, length, take, drop, set, sym, ap, ◌∙◌, arith}
-use Rattle.std.proofs.lemmas.List.{length-append, length-set, get_or-set_other}
+use Rattle.std.proofs.Common.{◌≡◌, ℕ, zero, suc, ◌+◌, ◌-◌, ◌*◌, ◌<◌, ◌≤◌, ◌==◌, min, not, List, ◌++◌, length, take, drop, set, filter, refl, ap, ◌∙◌, inl, inr, arith}
+use Rattle.std.proofs.lemmas.Bool.{cases_Bool}
+use Rattle.std.proofs.lemmas.List.{length-set, get_or-set_other}
+use Rattle.std.specs.List.{range_with_len}
 use Rattle.model.specs.State as s
 use Rattle.model.specs.State.{with_jobs, with_machines}
 use Rattle.jobs.specs.Layout.{home_words_lem}
-use Rattle.jobs.specs.Rows.{at, span, Only}
+use Rattle.jobs.specs.Rows.{at, entry_at, row_at, span, Only}
 use Rattle.jobs.specs.Tables.{task_at, task_slot, task_row_lem, task_rows_lem, tasks_of, job_at, job_slot, job_rows_lem, jobs_of, machine_at, machine_slot, machine_rows_lem, machines_of, state_of, span_with}
 use Rattle.jobs.proofs.Spans.{span_same, span_at, span_more}
 use Rattle.jobs.proofs.Words.{row_same}
@@ -25,8 +27,15 @@ module _ {X : Type 0} (f g : ℕ → List X) where
       span_more g n ∙ rw (a, e)
 
 -- counting what is no hole
-pub count_more : {X : Type 0} (f : ℕ → List X) (i : ℕ) (c : ℕ) (xs : List X) → f i ≡ xs → c ≡ length (span f 0 i) → c + length xs ≡ length (span f 0 (i + 1))
-count_more f i c xs e h = sym (ap length (span_more f i) ∙ length-append (span f 0 i) (f i) ∙ rw (e, h))
+pub count_used : (b w : ℕ) (ws fs : List ℕ) (a n : ℕ) → length (filter (λ i. not (at (row_at b w ws i) 0 == 0)) (range_with_len a n)) ≡ length (span (entry_at b w ws fs) a n)
+unfolding span
+count_used b w ws fs a zero = refl
+count_used b w ws fs a (suc n) =
+    let e : suc a ≡ a + 1 = omega arith in
+    elim (cases_Bool (at (row_at b w ws a) 0 == 0)) [
+      | inl t ↦ rw (t, e) (count_used b w ws fs (a + 1) n)
+      | inr t ↦ rw (t, e) (ap suc (count_used b w ws fs (a + 1) n))
+    ]
 
 -- A CHANGE WITHIN SOME WORDS, and of one more
 

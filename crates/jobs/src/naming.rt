@@ -1,5 +1,5 @@
 // Names in rows.
-ghost use Rattle.std.specs.Prelude.{◌≡◌, ℕ, ◌+◌, ◌-◌, ◌*◌, ◌<◌, ◌≤◌, min, List, length, slice_index};
+ghost use Rattle.std.specs.Prelude.{◌≡◌, ℕ, ◌+◌, ◌-◌, ◌*◌, ◌<◌, ◌≤◌, min, List, length, ◌==◌, slice_index};
 ghost use Rattle.model.specs.Lists.{same, some};
 ghost use Rattle.model.specs.State.{is_job};
 ghost use Rattle.jobs.specs.Tables.{byte_at, job_slot, name_from_lem};
@@ -59,16 +59,14 @@ impl Kind<'_> {
     pub fn is_named<N: Spelled>(self, name: &N) -> bool
         ensures { result ≡ same (N.Spelled.spelled name.now) (name_from_lem self.entry.words.now) }
     {
-        if name.len() as u64 != self.words[14].min(64) {
-            return false;
-        }
-        // A loop: in generic code a closure would need clauses of its own, so `all` is no plainer.
-        for k in 0..name.len() {
-            if name.byte(k) != byte_at(&self.words[15..23], k) {
-                return false;
-            }
-        }
-        true
+        let words = &self.words[15..23];
+        name.len() as u64 == self.words[14].min(64)
+            && (0..name.len()).all(
+                |k|
+                    requires { (8 ≤ length words.now) × (k < 64) × (k < length (N.Spelled.spelled name.now)) }
+                    ensures { result ≡ (slice_index (N.Spelled.spelled name.entry.now) k == byte_at words.entry.now k) }
+                { name.byte(k) == byte_at(words, k) },
+            )
     }
 
     // The job's name.

@@ -1,5 +1,5 @@
 // The rows, as parts of the words, and the three tables that they stand in.
-ghost use Rattle.std.specs.Prelude.{◌≡◌, ℕ, ◌+◌, ◌*◌, ◌<◌, ◌≤◌, min, List, length, ◌==◌};
+ghost use Rattle.std.specs.Prelude.{◌≡◌, ℕ, ◌+◌, ◌*◌, ◌<◌, ◌≤◌, min, not, List, length, ◌==◌};
 ghost use Rattle.jobs.specs.Rows.{at, entry_at, row_at, span};
 
 use crate::layout::*;
@@ -75,13 +75,13 @@ impl<const BASE: usize, const WIDTH: usize, const MOST: usize, const COUNTED: us
         requires counted { COUNTED < length home.now }
         ensures { (flags : List ℕ) → result ≡ length (span (entry_at BASE WIDTH home.now flags) 0 (min (at home.now COUNTED) MOST)) }
     {
-        let mut count = 0;
-        // A loop: in generic code a closure would need clauses of its own, so a chain is no plainer.
-        for i in 0..self.in_use(home) {
-            if !self.row(home, i).is_hole() {
-                count += 1;
-            }
-        }
-        count
+        (0..self.in_use(home))
+            .filter(
+                |i|
+                    requires { (BASE + MOST * WIDTH ≤ length home.now) × (i.now < MOST) }
+                    ensures { result ≡ not (at (row_at BASE WIDTH home.entry.now i.now) 0 == 0) }
+                { !self.row(home, *i).is_hole() },
+            )
+            .count()
     }
 }

@@ -26,10 +26,7 @@ pub fn sum_of_mosts(home: &[u64], name: &Name) -> u32
     requires { home_words_lem ≤ length home.now }
     ensures { result ≡ all_most (others (name_of name.now) (jobs_of home.now)) }
 {
-    let mut sum: u32 = 0;
-    // A loop: `map(..).sum()` over the rows was tried, and its proof did not close.
-    for i in 0..JOBS.in_use(home) {
-        sum += u32::from(most_in(JOBS.row(home, i), name));
-    }
-    sum
+    (0..JOBS.in_use(home))
+        .map(|i| u32::from(most_in(JOBS.row(home, i), name)))
+        .sum()
 }

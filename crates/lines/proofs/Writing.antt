@@ -1,8 +1,7 @@
 -- Bytes written one behind the other.
 -- Assumes nothing.
-use Rattle.std.proofs.Common.{◌≡◌, ℕ, ◌+◌, ◌-◌, ◌*◌, ◌<◌, ◌≤◌, Bool, true, false, List, [], ◌∷◌, ◌++◌, length, get_or, take, drop, sym, refl, ap, ◌∙◌, subst, append_assoc, append-nil, arith}
-use borrow.Rule.Slice.PartMut.{mid_of, put_mid}
-use mir.Val.{bool_byte}
+use Rattle.std.proofs.Common.{◌≡◌, ℕ, ◌+◌, ◌-◌, ◌*◌, ◌<◌, ◌≤◌, Bool, List, [], ◌∷◌, ◌++◌, length, get_or, take, drop, sym, refl, ap, ◌∙◌, subst, append_assoc, append-nil, arith}
+use borrow.Rule.Slice.PartMut.{put_mid}
 use Rattle.std.proofs.lemmas.List.{same_lists, places, drop_at, drop-take, take_at, take_more, length-append, length-drop, length-take-le}
 use Rattle.model.specs.Wire.{Bytes, bytes_of, flag_of, tag_bytes, spec_bytes}
 use Rattle.model.specs.Lines.{framed}
@@ -100,19 +99,13 @@ unfolding tag_bytes
 length_tag_bytes [] = refl
 length_tag_bytes (t ∷ ts) = let a = length-append (bytes_of 4 t) (tag_bytes ts) in let b = length_bytes_of 4 t in let c = length_tag_bytes ts in omega arith
 
-pub flag_byte : (b : Bool) → bool_byte b ≡ flag_of b
-flag_byte true = refl
-flag_byte false = refl
-
 -- A SPEC, part by part
-pub puts_spec : {a b c d e f g : Bytes} {i j k l m n o : ℕ} (image cpu mem t : ℕ) (tags : List ℕ) (apart : Bool) → t ≤ length tags →
-    Puts (bytes_of 4 image) a b i j → Puts (bytes_of 4 cpu) b c j k → Puts (bytes_of 4 mem) c d k l → Puts (t ∷ []) d e l m → Puts (tag_bytes (mid_of 0 (t - 0) tags)) e f m n → Puts (bool_byte apart ∷ []) f g n o →
+pub puts_spec : {a b c d e f g : Bytes} {i j k l m n o : ℕ} (image cpu mem t : ℕ) (tags : List ℕ) (apart : Bool) (count flag : ℕ) → t ≤ length tags → count ≡ t → flag ≡ flag_of apart →
+    Puts (bytes_of 4 image) a b i j → Puts (bytes_of 4 cpu) b c j k → Puts (bytes_of 4 mem) c d k l → Puts (t ∷ []) d e l m → Puts (tag_bytes (take count tags)) e f m n → Puts (flag ∷ []) f g n o →
     Puts (spec_bytes (record { image = image; cpu = cpu; mem = mem; tags = take t tags; apart = apart })) a g i o
-puts_spec image cpu mem t tags apart h p q r s u v =
-    let z : t - 0 ≡ t = omega arith in
-    let w : mid_of 0 (t - 0) tags ≡ take t tags = rw z refl in
+puts_spec image cpu mem t tags apart count flag h w x p q r s u v =
     let y : t ≡ length (take t tags) = sym (length-take-le t tags h) in
-    puts_then p (puts_then q (puts_then r (puts_then (puts_as (ap (λ (x : ℕ). x ∷ []) y) s) (puts_then (puts_as (ap tag_bytes w) u) (puts_as (ap (λ (x : ℕ). x ∷ []) (flag_byte apart)) v)))))
+    puts_then p (puts_then q (puts_then r (puts_then (puts_as (ap (λ (x : ℕ). x ∷ []) y) s) (puts_then (puts_as (ap (λ (k : ℕ). tag_bytes (take k tags)) w) u) (puts_as (ap (λ (x : ℕ). x ∷ []) x) v)))))
 
 -- A FRAME, written around what stands behind its place
 pub puts_framed : {body a b c d : Bytes} {m r s : ℕ} (tag n : ℕ) → 8 ≤ length a → Puts body a b 8 m → Puts (bytes_of 4 tag) b c 4 r → r ≡ 4 + 4 → Puts (bytes_of 4 n) c d 0 s → s ≡ 0 + 4 → n ≡ m - 4 → Puts (framed tag body) a d 0 m

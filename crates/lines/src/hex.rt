@@ -24,7 +24,7 @@ fn digits(bytes: &[u8], text: &mut [u8])
 }
 
 // The line of text that says an answer; nothing is written where there is no room for it.
-// (Its length and not the part: the clause says of the whole text that it stays as it was.)
+// (Its length and not the part: tried, and where a part is lent no clause can say any more that the text stays as it was.)
 pub fn say(answer: &[u8], text: &mut [u8]) -> Option<usize>
     ensures text { MatchOption result ((length text.old < 5 + 2 * length answer.now) × (text.new ≡ text.old)) (λ n. take n text.new ≡ out_text answer.now) }
     ensures within { IfSome result (λ n. n ≤ length text.new) }

@@ -41,7 +41,7 @@ fn put_tags(out: &mut [u8], at: usize, tags: &[u32]) -> usize
     end
 }
 
-// A spec, which takes 46 bytes at most. (`as`: the clauses speak of the numbers themselves.)
+// A spec, which takes 46 bytes at most.
 pub fn put_spec(out: &mut [u8], at: usize, spec: &Spec) -> usize
     requires { at + 46 ≤ length out.old }
     ensures bytes { Puts (spec_bytes (spec_of spec.now)) out.old out.new at result }
@@ -51,6 +51,6 @@ pub fn put_spec(out: &mut [u8], at: usize, spec: &Spec) -> usize
     let end = put_number(out, end, spec.cpu);
     let end = put_number(out, end, spec.mem);
     let end = put_u8(out, end, spec.count);
-    let end = put_tags(out, end, &spec.tags[0..spec.count as usize]);
-    put_u8(out, end, spec.apart as u8)
+    let end = put_tags(out, end, &spec.tags[..usize::from(spec.count)]);
+    put_u8(out, end, u8::from(spec.apart))
 }

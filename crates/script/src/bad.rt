@@ -4,16 +4,22 @@ ghost use Rattle.script.specs.declared.bad.Bad.TheVariants.{NoMemory};
 
 use jobs::ids::MachineId;
 use std::alloc::{AllocError, AllocFailed};
-use std::fmt;
+use thiserror::Error;
 
-#[derive(Clone, Copy, Debug)]
+#[derive(Clone, Copy, Debug, Error)]
 pub enum Bad {
+    #[error("not printable ASCII")]
     NotAscii,
+    #[error("no such command")]
     NoCommand,
     // The command is there, and something of it is wrong: so it should be.
+    #[error("say {0}")]
     Say(&'static str),
+    #[error("eight machines are played, and {n} would be the ninth", n = .0.0)]
     Ninth(MachineId),
+    #[error("there is no letter {0}")]
     NoLetter(u64),
+    #[error("no memory for it")]
     NoMemory,
 }
 
@@ -30,22 +36,5 @@ impl<T: Drop> From<AllocFailed<T>> for Bad {
 
     fn from(_e: AllocFailed<T>) -> Bad {
         Bad::NoMemory
-    }
-}
-
-impl fmt::Display for Bad {
-    fn fmt<W: fmt::Write>(&self, f: &mut fmt::Formatter<W>) -> fmt::Result {
-        match self {
-            Bad::NotAscii => write!(f, "not printable ASCII"),
-            Bad::NoCommand => write!(f, "no such command"),
-            Bad::Say(usage) => write!(f, "say {usage}"),
-            Bad::Ninth(m) => write!(
-                f,
-                "eight machines are played, and {} would be the ninth",
-                m.0
-            ),
-            Bad::NoLetter(k) => write!(f, "there is no letter {k}"),
-            Bad::NoMemory => write!(f, "no memory for it"),
-        }
     }
 }

@@ -1,14 +1,14 @@
 -- One more row, and what is on a machine.
 -- Assumes nothing.
-use Rattle.std.proofs.Common.{◌≡◌, ℕ, zero, suc, ◌+◌, ◌*◌, ◌<◌, ◌≤◌, Bool, true, false, ◌||◌, eqb, List, [], ◌∷◌, ◌++◌, length, get_or, set, Some, None, sym, refl, ap, ◌∙◌, inl, inr, arith}
-use Rattle.std.proofs.lemmas.List.{append-nil, get_or-set_same, get_or-set_other, get_or_default}
+use Rattle.std.proofs.Common.{◌≡◌, ℕ, zero, suc, ◌+◌, ◌*◌, ◌<◌, ◌≤◌, Bool, true, false, ◌||◌, eqb, List, [], ◌∷◌, ◌++◌, length, get_or, set, Option, Some, None, sym, refl, ap, subst, ◌∙◌, inl, inr, arith}
+use Rattle.std.proofs.lemmas.List.{append-nil, append_assoc, length-append, get_or-set_same, get_or-set_other, get_or_default}
 use Rattle.std.proofs.lemmas.Bool.{cases_Bool, cases_eq}
+use Rattle.std.specs.List.{cons_option, filter_map, range_with_len}
 use Rattle.model.specs.Lists.{keep, some}
 use Rattle.model.specs.State as s
 use Rattle.model.specs.State.{is_waiting, of_job, on_machine, cpu_of, mem_of}
-use Rattle.jobs.specs.Rows.{at, span}
-use Rattle.jobs.specs.Tables.{task_at, task_row_lem, task_from, machine_rows_lem}
-use Rattle.jobs.proofs.Spans.{span_none, span_more}
+use Rattle.jobs.specs.Rows.{span}
+use Rattle.jobs.specs.Tables.{task_at, machine_rows_lem}
 use Rattle.settling.specs.Place.{LoadBy, Loaded, weight_of, heavier, no_load, num_at}
 use Rattle.settling.specs.declared.load.Load.{Load}
 use Rattle.settling.specs.declared.load.Weight.{Weight}
@@ -69,37 +69,6 @@ module _ (job : s.Name) (k : ℕ) (ts : List s.Task) (l : Load) (b : LoadBy job 
   ]
   weighs_not (x ∷ z ∷ zs) h e = absurd (let q : suc (suc (length zs)) ≤ 1 = h in omega arith)
 
-module _ (job : s.Name) (home live : List ℕ) where
-  pub loaded_none : (ls : List Load) → ((r : ℕ) (e : Load) → r < 256 → get_or ls r e ≡ no_load) → Loaded job home (span (task_at home live) 0 0) ls
-  loaded_none ls z r e h = rw (z r e (omega arith), span_none (task_at home live) 0) (none_on job (num_at home r))
-
-  pub loaded_more : (i : ℕ) (ls ms : List Load) (w : Weight) → Some w ≡ weight_of job (task_at home live i) → ((r : ℕ) (e : Load) → r < machine_rows_lem home → get_or ms r e ≡ heavier (num_at home r) w (get_or ls r e)) →
-      Loaded job home (span (task_at home live) 0 i) ls → Loaded job home (span (task_at home live) 0 (i + 1)) ms
-  loaded_more i ls ms w e p k r d h = rw (p r d h, span_more (task_at home live) i) (weighs job (num_at home r) (span (task_at home live) 0 i) (get_or ls r d) (k r d h) (task_at home live i) w (row_few home live i) e)
-
-  pub loaded_same : (i : ℕ) (ls : List Load) → None ≡ weight_of job (task_at home live i) → Loaded job home (span (task_at home live) 0 i) ls → Loaded job home (span (task_at home live) 0 (i + 1)) ls
-  loaded_same i ls e k r d h = rw (span_more (task_at home live) i) (weighs_not job (num_at home r) (span (task_at home live) 0 i) (get_or ls r d) (k r d h) (task_at home live i) (row_few home live i) e)
-
-  -- few tasks of little weight weigh little
-  light : (i k : ℕ) → (cpu_of (keep (on_machine k) (span (task_at home live) 0 i)) ≤ i * 4294967295) × (mem_of (keep (on_machine k) (span (task_at home live) 0 i)) ≤ i * 4294967295)
-  unfolding keep cpu_of mem_of
-  light zero k = rw (span_none (task_at home live) 0) (omega arith, omega arith)
-  light (suc i) k =
-      let e : suc i ≡ i + 1 = omega arith in
-      let b = light i k in
-      rw (e, span_more (task_at home live) i)
-      (elim (cases_Bool (eqb (at (task_row_lem home i) 0) 0)) [
-        | inl t ↦ rw (t, append-nil (span (task_at home live) 0 i)) (omega (arith, b.0), omega (arith, b.1))
-        | inr n ↦ rw n (elim (cases_Bool (on_machine k (task_from (task_row_lem home i) (at live (256 + i))))) [
-          | inl y ↦ (let q = keep_yes (on_machine k) (span (task_at home live) 0 i) (task_from (task_row_lem home i) (at live (256 + i))) y in
-              rw q (omega (arith, b.0, cpu_push (keep (on_machine k) (span (task_at home live) 0 i)) (task_from (task_row_lem home i) (at live (256 + i)))), omega (arith, b.1, mem_push (keep (on_machine k) (span (task_at home live) 0 i)) (task_from (task_row_lem home i) (at live (256 + i))))))
-          | inr y ↦ (let q = keep_no (on_machine k) (span (task_at home live) 0 i) (task_from (task_row_lem home i) (at live (256 + i))) y in rw q (omega (arith, b.0), omega (arith, b.1)))
-        ])
-      ])
-
-  pub loaded_light : (i : ℕ) (ls : List Load) → i ≤ 2048 → Loaded job home (span (task_at home live) 0 i) ls → (r : ℕ) (e : Load) → r < machine_rows_lem home → ((get_or ls r e).cpu < 1000000000000000) × ((get_or ls r e).mem < 1000000000000000)
-  loaded_light i ls h k r e w = let b = light i (num_at home r) in (omega (arith, (k r e w).cpu, b.0), omega (arith, (k r e w).mem, b.1))
-
 -- THE TABLE, ROW BY ROW
 
 -- rows below q have the task more, the others not yet
@@ -120,3 +89,74 @@ adding_more home w ls ms q v d l z a is r e h = (
   where
     below : (r : ℕ) → r < q + 1 → (r ≡ q → ⊥) → r < q
     below r b n = omega arith
+
+-- ALL WEIGHTS, as a chain yields them
+
+-- what weights make of a machine k that has the load l
+unfoldable pub put_from : ℕ → Load → List Weight → Load
+put_from k l [] = l
+put_from k l (w ∷ ws) = put_from k (heavier k w l) ws
+
+put_more : (k : ℕ) (l : Load) (ws : List Weight) (w : Weight) → put_from k l (ws ++ w ∷ []) ≡ heavier k w (put_from k l ws)
+unfolding put_from
+put_more k l [] w = refl
+put_more k l (v ∷ ws) w = put_more k (heavier k v l) ws w
+
+adds_few : (k : ℕ) (w : Weight) (l : Load) → ((heavier k w l).cpu ≤ l.cpu + w.cpu) × ((heavier k w l).mem ≤ l.mem + w.mem)
+adds_few k w l = elim (cases_Bool (eqb k w.machine.0)) [ inl t ↦ rw t (omega arith, omega arith) | inr n ↦ rw n (omega arith, omega arith) ]
+
+-- each row's load is that of so many weights
+abbrev pub Weighed : List ℕ → List Weight → List Load → Type 0
+Weighed home ws ls = (r : ℕ) (e : Load) → r < machine_rows_lem home → (get_or ls r e ≡ put_from (num_at home r) no_load ws) × ((get_or ls r e).cpu ≤ length ws * 4294967295) × ((get_or ls r e).mem ≤ length ws * 4294967295)
+
+pub weighed_none : (home : List ℕ) (ls : List Load) → ((r : ℕ) (e : Load) → r < 256 → get_or ls r e ≡ no_load) → Weighed home [] ls
+unfolding put_from
+weighed_none home ls z r e h = let l = z r e (omega arith) in (l, rw l (omega arith), rw l (omega arith))
+
+pub weighed_more : (home : List ℕ) (ws : List Weight) (ls ms : List Load) (w : Weight) → w.cpu < 4294967296 → w.mem < 4294967296 → ((r : ℕ) (e : Load) → r < machine_rows_lem home → get_or ms r e ≡ heavier (num_at home r) w (get_or ls r e)) → Weighed home ws ls → Weighed home (ws ++ w ∷ []) ms
+weighed_more home ws ls ms w c m p k r e h =
+    let l = get_or ls r e in
+    let b = k r e h in
+    let f = adds_few (num_at home r) w l in
+    let n : length (ws ++ w ∷ []) ≡ length ws + 1 = length-append ws (w ∷ []) in (
+      p r e h ∙ ap (heavier (num_at home r) w) b.0 ∙ sym (put_more (num_at home r) no_load ws w),
+      rw (p r e h, n) (omega (arith, f.0, b.1)),
+      rw (p r e h, n) (omega (arith, f.1, b.2)),
+    )
+
+pub weighed_light : (home : List ℕ) (ws : List Weight) (ls : List Load) → length ws ≤ 2048 → Weighed home ws ls → (r : ℕ) (e : Load) → r < machine_rows_lem home → ((get_or ls r e).cpu < 1000000000000000) × ((get_or ls r e).mem < 1000000000000000)
+weighed_light home ws ls n k r e h = let b = k r e h in (omega (arith, b.1), omega (arith, b.2))
+
+-- the weights of n rows from a on, and no more of them than rows
+abbrev pub weights_of : s.Name → List ℕ → List ℕ → ℕ → ℕ → List Weight
+weights_of job home live a n = filter_map (λ (i : ℕ). weight_of job (task_at home live i)) (range_with_len a n)
+
+module _ (job : s.Name) (home live : List ℕ) where
+  one_more : (o : Option Weight) (ws : List Weight) (n : ℕ) → length ws ≤ n → length (cons_option o ws) ≤ suc n
+  one_more None ws n h = omega (arith, h)
+  one_more (Some w) ws n h = omega (arith, h)
+
+  pub weights_few : (a n : ℕ) → length (weights_of job home live a n) ≤ n
+  weights_few a zero = omega arith
+  weights_few a (suc n) = one_more (weight_of job (task_at home live a)) _ n (weights_few (a + 1) n)
+
+  -- what a row adds, and then weights ws to all ts
+  row_on : (k : ℕ) (ts xs : List s.Task) (l : Load) (ws : List Weight) (us : List s.Task) → LoadBy job k ts l → length xs ≤ 1 → ((m : Load) → LoadBy job k (ts ++ xs) m → LoadBy job k us (put_from k m ws)) → (o : Option Weight) → o ≡ weight_of job xs → LoadBy job k us (put_from k l (cons_option o ws))
+  unfolding put_from
+  row_on k ts xs l ws us b h on None e = on l (weighs_not job k ts l b xs h e)
+  row_on k ts xs l ws us b h on (Some w) e = on (heavier k w l) (weighs job k ts l b xs w h e)
+
+  loads_on : (k a n : ℕ) (ts : List s.Task) (l : Load) → LoadBy job k ts l → LoadBy job k (ts ++ span (task_at home live) a n) (put_from k l (weights_of job home live a n))
+  unfolding span put_from
+  loads_on k a zero ts l b = rw (append-nil ts) b
+  loads_on k a (suc n) ts l b =
+      let xs = task_at home live a in
+      let e : a + 1 ≡ suc a = omega arith in
+      row_on k ts xs l (weights_of job home live (a + 1) n) (ts ++ (xs ++ span (task_at home live) (suc a) n)) b (row_few home live a)
+      (λ m c.
+      subst (λ (ys : List s.Task). LoadBy job k ys (put_from k m (weights_of job home live (a + 1) n))) (append_assoc ts xs (span (task_at home live) (suc a) n))
+      (subst (λ (i : ℕ). LoadBy job k ((ts ++ xs) ++ span (task_at home live) i n) (put_from k m (weights_of job home live (a + 1) n))) e (loads_on k (a + 1) n (ts ++ xs) m c)))
+      (weight_of job xs) refl
+
+  pub weighed_all : (n : ℕ) (ls : List Load) → Weighed home (weights_of job home live 0 n) ls → Loaded job home (span (task_at home live) 0 n) ls
+  weighed_all n ls k r e h = rw ((k r e h).0) (loads_on (num_at home r) 0 n [] no_load (none_on job (num_at home r)))

@@ -92,7 +92,7 @@ pub fn tally_of(home: &[u64], live: &[u64], job: &Job, time: u64) -> Tally
     requires flags { live_words ≤ length live.now }
     ensures { Tallied (job_of job.now) (state_of home.now live.now time) (task_at home.now live.now) (task_rows_lem home.now) result }
 {
-    // No fold: a closure's clauses have no place for the bounds on the counts.
+    // No `fold`: tried, and what it asks before each turn, the bounds on the counts, did not close. It would be as long.
     let mut tally = Tally::default();
     for i in 0..TASKS.in_use(home) {
         tally = step(tally, home, live, i, job, time);

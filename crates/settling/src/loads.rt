@@ -65,10 +65,7 @@ pub fn weigh_all(home: &[u64], job: &Name, loads: &mut [Load])
     ensures { (live : List ℕ) → Loaded (name_of job.now) home.now (tasks_of home.now live) loads.new }
 {
     loads.fill(Load::default());
-    // A loop: what its step changes is lent, and `for_each` or `fold` would need clauses at the closure, so they are no plainer.
-    for i in 0..TASKS.in_use(home) {
-        if let Some(w) = weight(home, i, job) {
-            add_to_all(home, w, loads);
-        }
+    for w in (0..TASKS.in_use(home)).filter_map(|i| weight(home, i, job)) {
+        add_to_all(home, w, loads);
     }
 }

@@ -14,15 +14,14 @@ use jobs::spec::Spec;
 use octets::field::{filled, number_at};
 use std::alloc::Global;
 
-// A likeness with so many tags. (`as`, here and below: the proofs speak of the numbers themselves. `lines::read` reads the same fields,
-// but lends the tags, which may be too many there.)
+// A likeness with so many tags. (`lines::read` reads the same fields, but lends the tags, which may be too many there.)
 fn spec_in(bytes: &[u8], count: u8) -> Spec
     requires few { count ≤ 8 }
     requires whole { 14 + 4 * count ≤ length bytes.now }
     ensures value { spec_of result ≡ spec_in_lem count bytes.now }
     ensures count { result.count ≡ count }
 {
-    let end = 13 + 4 * count as usize;
+    let end = 13 + 4 * usize::from(count);
     Spec {
         image: number_at(bytes, 0),
         cpu: number_at(bytes, 4),
@@ -41,7 +40,10 @@ fn order_in(bytes: &[u8]) -> Option<Order>
         return None;
     }
     let count = bytes[20];
-    if count > 8 || bytes.len() < 22 + 4 * count as usize || bytes[21 + 4 * count as usize] > 1 {
+    if count > 8
+        || bytes.len() < 22 + 4 * usize::from(count)
+        || bytes[21 + 4 * usize::from(count)] > 1
+    {
         return None;
     }
     Some(Order {
@@ -58,7 +60,7 @@ fn orders_in(heap: Global, bytes: &[u8], count: u16) -> Result<Vec<Order>, Unrea
     let mut rest = bytes;
     for _ in 0..count {
         let order = order_in(rest).ok_or(Unread::NoAnswer)?;
-        rest = &rest[22 + 4 * order.spec.count as usize..];
+        rest = &rest[22 + 4 * usize::from(order.spec.count)..];
         orders.push(order)?;
     }
     if !rest.is_empty() {

@@ -3,11 +3,13 @@ ghost use Rattle.std.specs.Prelude.{◌≡◌};
 ghost use Rattle.wire.specs.declared.unread.Unread.TheVariants.{NoMemory};
 
 use std::alloc::{AllocError, AllocFailed};
-use std::fmt;
+use thiserror::Error;
 
-#[derive(Clone, Copy, Debug, PartialEq, Eq)]
+#[derive(Clone, Copy, Debug, PartialEq, Eq, Error)]
 pub enum Unread {
+    #[error("it is no answer")]
     NoAnswer,
+    #[error("no memory to read it")]
     NoMemory,
 }
 
@@ -24,14 +26,5 @@ impl<T: Drop> From<AllocFailed<T>> for Unread {
 
     fn from(_e: AllocFailed<T>) -> Unread {
         Unread::NoMemory
-    }
-}
-
-impl fmt::Display for Unread {
-    fn fmt<W: fmt::Write>(&self, f: &mut fmt::Formatter<W>) -> fmt::Result {
-        match self {
-            Unread::NoAnswer => write!(f, "it is no answer"),
-            Unread::NoMemory => write!(f, "no memory to read it"),
-        }
     }
 }

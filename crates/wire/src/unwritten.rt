@@ -3,12 +3,14 @@ ghost use Rattle.std.specs.Prelude.{◌≡◌};
 ghost use Rattle.wire.specs.declared.unwritten.Unwritten.TheVariants.{NoMemory};
 
 use std::alloc::AllocError;
-use std::fmt;
+use thiserror::Error;
 
-#[derive(Clone, Copy, Debug, PartialEq, Eq)]
+#[derive(Clone, Copy, Debug, PartialEq, Eq, Error)]
 pub enum Unwritten {
     // There are no bytes in which to count it.
+    #[error("it is longer than bytes can say")]
     TooLong,
+    #[error("no memory to write it")]
     NoMemory,
 }
 
@@ -17,14 +19,5 @@ impl From<AllocError> for Unwritten {
 
     fn from(_e: AllocError) -> Unwritten {
         Unwritten::NoMemory
-    }
-}
-
-impl fmt::Display for Unwritten {
-    fn fmt<W: fmt::Write>(&self, f: &mut fmt::Formatter<W>) -> fmt::Result {
-        match self {
-            Unwritten::TooLong => write!(f, "it is longer than bytes can say"),
-            Unwritten::NoMemory => write!(f, "no memory to write it"),
-        }
     }
 }

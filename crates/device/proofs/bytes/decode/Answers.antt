@@ -1,8 +1,9 @@
-use Rattle.std.proofs.Common.{◌<◌, ◌≢◌, length, arith, get_or-set_other, get_or-set_same, below_more}
+use Rattle.std.proofs.Common.{◌<◌, ◌≢◌, length, ◌∙◌, arith, get_or-set_other, get_or-set_same, below_more}
+use Rattle.device.proofs.Words.{field_word}
 use Rattle.device.proofs.bytes.decode.Goals as goal
 
 pub loop-i-preserved : goal.loop-i-preserved
 loop-i-preserved c =
     below_more _ _
     (λ k h. let ne : k ≢ c.loop-i.i = omega arith in rw get_or-set_other (c.loop-i.invariant k h))
-    (let lt : c.loop-i.i < length c.loop-i.words = omega arith in rw get_or-set_same c.decode_one.ensures)
+    (let lt : c.loop-i.i < length c.loop-i.words = omega arith in rw get_or-set_same (c.number_at.ensures ∙ field_word c.args.bytes.now c.loop-i.i (omega (arith, c.requires))))

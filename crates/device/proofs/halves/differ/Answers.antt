@@ -1,17 +1,13 @@
-use Rattle.std.proofs.Common.{arith}
-use Rattle.device.proofs.Doings.{leads_as, leads_done}
-use Rattle.device.proofs.Steps.{differs_same, differs_other, differs_end}
+use Rattle.std.proofs.Common.{◌+◌, ◌==◌, not, rules}
+use Rattle.std.proofs.lemmas.Iterator.{YieldsList-from_slice}
+use Rattle.std.proofs.lemmas.Iterator.Consumers.{YieldsList-from_enumerate, YieldsList-from_filter, count_from_yields_List}
+use Rattle.device.proofs.Steps.{differs_all}
 use Rattle.device.proofs.halves.differ.Goals as goal
-use Rattle.device.proofs.halves.differ.Goals.{then-load-word, else-load-word}
-
-pub loop-i-preserved : goal.loop-i-preserved
-loop-i-preserved g c =
-    elim c.if-load-word.branch [
-      | then-load-word w ↦
-          (omega (arith, w.n-is), rw w.n-is (differs_other c.args.from c.loop-i.i c.loop-i.n c.args.home.now (g.K.Kept.word c.args.words.now) c.load.result c.loop-i.invariant.1 c.loop-i-test.true c.load.ensures w.if-load-word.true))
-      | else-load-word w ↦
-          (omega (arith, w.n-is), rw w.n-is (differs_same c.args.from c.loop-i.i c.loop-i.n c.args.home.now (g.K.Kept.word c.args.words.now) c.load.result c.loop-i.invariant.1 c.loop-i-test.true c.load.ensures w.if-load-word.false))
-    ]
 
 pub returns : goal.returns
-returns g c = leads_done c.loop-i.n (leads_as _ c.loop-i.invariant.1 (differs_end _ c.loop-i.i c.loop-i.n c.args.home.now c.loop-i-test.false))
+returns g c =
+    let m = g.K.Kept.word c.args.words.now in
+    let from = c.args.from in
+    let home = c.args.home.now in
+    differs_all m from c.count.result home
+    (count_from_yields_List c.filter.result _ c.count.ensures.ran (YieldsList-from_filter _ (λ p. not (m (from + p.0) == p.1)) (YieldsList-from_enumerate (YieldsList-from_slice home (cc)) (cc)) c.filter.ensures.closure (λ x r q k. search rules)))

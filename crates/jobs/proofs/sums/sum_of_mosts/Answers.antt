@@ -1,18 +1,25 @@
-use Rattle.std.proofs.Common.{◌≡◌, ℕ, List, ap, ◌∙◌, arith}
+use Rattle.std.proofs.Common.{ℕ, ap, ◌∙◌, arith, rules, tests}
+use Rattle.std.proofs.lemmas.Iterator.{YieldsList-from_range, YieldsList-from_map}
+use Rattle.std.proofs.lemmas.Iterator.Adapters.{at_most_from_yields_List, fits_from_length}
+use Rattle.std.proofs.lemmas.Iterator.Consumers.{sum_by_from_yields_List}
+use Rattle.std.proofs.lemmas.List.FromFn.{length-range_with_len}
+use Rattle.std.specs.List.{range_with_len}
 use Rattle.model.specs.Calls.{all_most, others}
 use Rattle.jobs.specs.Rows.{span}
-use Rattle.jobs.specs.Tables.{job_at, job_slot, job_rows_lem}
+use Rattle.jobs.specs.Tables.{job_at}
 use Rattle.jobs.specs.Values.{name_of}
-use Rattle.jobs.proofs.Darkness.{most_none, most_more}
+use Rattle.jobs.proofs.Darkness.{most_sum}
 use Rattle.jobs.proofs.sums.sum_of_mosts.Goals as goal
 
-pub loop-i-init : goal.loop-i-init
-loop-i-init c = (most_none (name_of c.args.name.now) (job_at c.args.home.now), omega arith)
-
-pub loop-i-preserved : goal.loop-i-preserved
-loop-i-preserved c =
-    let n = name_of c.args.name.now in
-    (most_more n (job_at c.args.home.now) c.loop-i.i c.loop-i.sum c.from-sum.result c.loop-i.invariant.0 (c.from-sum.ensures ∙ c.most_in.ensures ∙ ap (λ (r : List ℕ). all_most (others n (job_slot r))) c.row.ensures), omega arith)
+pub sum-requires-clause-fits : goal.sum-requires-clause-fits
+sum-requires-clause-fits c =
+    let n = c.in_use.result in
+    fits_from_length _ _ 256 _ (at_most_from_yields_List (YieldsList-from_range 0 n n c.map.ensures.source (omega arith)) (omega (arith, length-range_with_len 0 n, c.in_use.ensures.few))) c.map.ensures.closure (omega arith) (λ x r q k. search (rules, tests))
 
 pub returns : goal.returns
-returns c = let e : c.loop-i.i ≡ job_rows_lem c.args.home.now = omega arith in c.loop-i.invariant.0 ∙ ap (λ (k : ℕ). all_most (others (name_of c.args.name.now) (span (job_at c.args.home.now) 0 k))) e
+returns c =
+    let n = c.in_use.result in
+    let name = name_of c.args.name.now in
+    let f = job_at c.args.home.now in
+    sum_by_from_yields_List (λ i. all_most (others name (f i))) (range_with_len 0 n) c.map.result _ c.sum.ensures.ran (YieldsList-from_map _ (λ i. all_most (others name (f i))) (YieldsList-from_range 0 n n c.map.ensures.source (omega arith)) c.map.ensures.closure (λ x r q k. search rules))
+    ∙ most_sum name f n ∙ ap (λ (k : ℕ). all_most (others name (span f 0 k))) c.in_use.ensures.is

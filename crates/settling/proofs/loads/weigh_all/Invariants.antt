@@ -1,9 +1,6 @@
-use Rattle.std.proofs.Common.{ℕ, List}
-use Rattle.jobs.specs.Rows.{span}
-use Rattle.jobs.specs.Tables.{task_at}
-use Rattle.jobs.specs.Values.{name_of}
-use Rattle.settling.specs.Place.{Loaded}
+use Rattle.settling.proofs.Weighs.{Weighed}
 use Rattle.settling.proofs.loads.weigh_all.Given as goal
 
-abbrev pub invariant-loop-i : goal.invariant-loop-i
-invariant-loop-i l = (live : List ℕ) → Loaded (name_of l.job) l.home (span (task_at l.home live) 0 l.i) l.loads
+-- each load is that of the weights so far
+abbrev pub invariant-loop-w : goal.invariant-loop-w
+invariant-loop-w l = (goal.iterator-loop-w).can_next l.w-iterator × (goal.iterator-loop-w).is_finite l.w-iterator × Weighed l.home l.yielded l.loads

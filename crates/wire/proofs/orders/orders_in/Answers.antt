@@ -12,7 +12,7 @@ returns-in_err-order c =
     subst (OrdersAs c.args.count c.args.bytes.now) (sym q) (reading_bad _ _ _ _ _ c.loop.invariant c.loop-test.true o)
 
 pub loop-preserved : goal.loop-preserved
-loop-preserved c = let o = rw c.in_ok-order.ensures.ok_part at c.order_in.ensures in reading_more _ _ _ _ _ c.loop.invariant c.loop-test.true c.in_ok-order.order o _ (pushed order_of _ _ _ c.in_ok-order.order c.push.ensures.items (ap is_ok c.in_ok-push.was))
+loop-preserved c = let o = rw c.in_ok-order.ensures.ok_part at c.order_in.ensures in rw c.from.ensures (reading_more _ _ _ _ _ c.loop.invariant c.loop-test.true c.in_ok-order.order o _ (pushed order_of _ _ _ c.in_ok-order.order c.push.ensures.items (ap is_ok c.in_ok-push.was)))
 
 pub returns-then-not-is_empty : goal.returns-then-not-is_empty
 returns-then-not-is_empty c = reading_ends _ _ _ _ _ c.loop.invariant c.loop-test.false _ c.if-not-is_empty.ensures

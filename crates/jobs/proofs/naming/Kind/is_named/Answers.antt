@@ -1,17 +1,20 @@
-use Rattle.std.proofs.Common.{min, take, drop, sym, ◌∙◌, arith}
+use Rattle.std.proofs.Common.{◌≡◌, min, take, drop, get_or, sym, ◌∙◌, refl, arith, rules, tests}
+use Rattle.std.proofs.lemmas.Bool.{ne_eqb}
+use Rattle.std.proofs.lemmas.Iterator.{cases_from_all, YieldsList-from_range}
 use Rattle.jobs.specs.Rows.{at}
-use Rattle.jobs.proofs.Names.{other_length, other_byte, same_bytes}
+use Rattle.jobs.specs.Tables.{byte_at}
+use Rattle.jobs.proofs.Names.{other_length, same_by}
 use Rattle.jobs.proofs.naming.Kind.is_named.Goals as goal
 
 pub returns-then-len-min : goal.returns-then-len-min
-returns-then-len-min g c = sym (other_length (g.N.Spelled.spelled c.args.name.now) (min (at c.args.self.words.now 14) 64) (take 8 (drop 15 c.args.self.words.now)) (λ e. c.if-len-min.true (c.len.ensures ∙ e ∙ sym c.min.ensures)))
+returns-then-len-min g c =
+    let xs = g.N.Spelled.spelled c.args.name.now in
+    let n = min (at c.args.self.words.now 14) 64 in
+    let ws = take 8 (drop 15 c.args.self.words.now) in
+    same_by xs n ws c.all.result (sym c.len.ensures ∙ c.if-len-min.true ∙ c.min.ensures)
+    (cases_from_all _ _ _ (λ k. get_or xs k 0 ≡ byte_at ws k) (λ k. get_or xs k 0 ≡ byte_at ws k → ⊥) c.all.ensures.ran (YieldsList-from_range 0 c.len-then-len-min.result _ refl (omega (arith, c.len-then-len-min.ensures))) (λ x q k. search (rules, tests)) (λ x q k. search (rules, tests)))
 
-pub returns-then-byte-byte_at : goal.returns-then-byte-byte_at
-returns-then-byte-byte_at g c =
-    sym (other_byte (g.N.Spelled.spelled c.args.name.now) (min (at c.args.self.words.now 14) 64) (take 8 (drop 15 c.args.self.words.now)) c.loop-k.k (sym c.len.ensures ∙ c.if-len-min.false ∙ c.min.ensures)
-    (omega (arith, c.loop-k-test.true, c.len-k-end.ensures)) (λ e. c.if-byte-byte_at.true (c.byte.ensures ∙ e ∙ sym c.byte_at.ensures)))
-
-pub returns : goal.returns
-returns g c =
-    sym (same_bytes (g.N.Spelled.spelled c.args.name.now) (min (at c.args.self.words.now 14) 64) (take 8 (drop 15 c.args.self.words.now)) (sym c.len.ensures ∙ c.if-len-min.false ∙ c.min.ensures)
-    (λ k h. c.loop-k.invariant k (omega (arith, c.loop-k-test.false, c.len-k-end.ensures))))
+pub returns-else-len-min : goal.returns-else-len-min
+returns-else-len-min g c =
+    let xs = g.N.Spelled.spelled c.args.name.now in
+    ne_eqb _ _ c.if-len-min.false ∙ sym (other_length xs (min (at c.args.self.words.now 14) 64) (take 8 (drop 15 c.args.self.words.now)) (λ e. c.if-len-min.false (c.len.ensures ∙ e ∙ sym c.min.ensures)))
