@@ -1,6 +1,13 @@
 // The file `life`, replaced as a whole: the next life is on the disk before anything bears it.
+ghost use Rattle.std.specs.Prelude.{◌≡◌, IfOk, OnOk};
+ghost use Rattle.device.specs.Replaced.{Either, IsKept};
+ghost use Rattle.device.specs.declared.content.Content.TheVariants.{Bytes};
+ghost use Rattle.agents.specs.LifeFile.{life_bytes_lem};
+
 use agents::life::{Unfit, first_life, life_bytes, next_life};
-use device::replace::{Paths, replace};
+use device::content::Content;
+use device::disk::{OnDisk, Paths};
+use device::replace::{Replacing, replace};
 use jobs::ids::{LAST, Life};
 use std::alloc::AllocError;
 use std::fs::File;
@@ -64,22 +71,25 @@ fn next(rt: &HostRuntime, path: &str) -> Result<Life, Trouble> {
     }
 }
 
-// On the disk, before anything bears it.
-fn keep(rt: &HostRuntime, paths: Paths<'_>, life: Life) -> io::Result<()> {
-    let aside = format!(in rt.alloc(); "{}/life.new", paths.dir)?;
-    replace(rt, paths, aside.as_str(), |file| {
-        file.write_all(&life_bytes(life))
-    })
+// The life, once it is on the disk, and nothing else can be found there any more.
+fn keep<R: Replacing>(file: &mut R, life: Life) -> io::Result<Life>
+    ensures kept { OnOk result (IsKept (R.done file.new) × (R.wrote file.new ≡ Bytes (life_bytes_lem life.0))) }
+    ensures either { Either (R.done file.old) → Either (R.done file.new) }
+    ensures life { IfOk result (λ l. l ≡ life) }
+{
+    replace(file, Content::Bytes(life_bytes(life)))?;
+    Ok(life)
 }
 
 // A life that was never used, once it is on the disk.
 pub fn rise(rt: &HostRuntime, dir: &str) -> Result<Life, Trouble> {
     let path = format!(in rt.alloc(); "{dir}/life")?;
+    let aside = format!(in rt.alloc(); "{dir}/life.new")?;
     let life = next(rt, path.as_str())?;
     let paths = Paths {
         file: path.as_str(),
         dir,
     };
-    keep(rt, paths, life).map_err(Trouble::Keep)?;
-    Ok(life)
+    let mut file = OnDisk::new(rt, paths, aside.as_str());
+    keep(&mut file, life).map_err(Trouble::Keep)
 }

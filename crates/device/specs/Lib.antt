@@ -7,3 +7,4 @@ pub mod Counter
 pub mod Bytes
 pub mod Server
 pub mod Opens
+pub mod Replaced

@@ -7,7 +7,10 @@
 #![tactic(auto)]
 
 mod bytes;
+pub mod content;
 pub mod counter;
+pub mod disk;
+pub mod done;
 pub mod filed;
 pub mod fused;
 pub mod halves;

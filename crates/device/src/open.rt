@@ -3,9 +3,11 @@ ghost use Rattle.std.specs.Prelude.{◌≡◌, length, IfErr};
 ghost use Rattle.device.specs.Opens.{IsFair};
 
 use crate::bytes::decode;
+use crate::content::Content;
+use crate::disk::{OnDisk, Paths};
 use crate::filed::Filed;
 use crate::kept::WORDS;
-use crate::replace::{Paths, replace};
+use crate::replace::replace;
 use std::alloc::AllocError;
 use std::fs::{File, OpenOptions};
 use std::io;
@@ -83,7 +85,8 @@ fn open_file(rt: &HostRuntime, path: &str) -> io::Result<File> {
 
 // Made aside, so that there is never a part of it.
 fn make(rt: &HostRuntime, paths: Paths<'_>, aside: Result<&str, AllocError>) -> io::Result<()> {
-    replace(rt, paths, aside?, |file| file.set_len(BYTES))
+    let mut disk = OnDisk::new(rt, paths, aside?);
+    replace(&mut disk, Content::Zeros(BYTES))
 }
 
 fn read_all(file: &mut File, mirror: &mut [u64; WORDS]) -> io::Result<()> {

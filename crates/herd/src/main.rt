@@ -5,10 +5,10 @@ mod serve;
 mod trouble;
 
 use calls::mind::Mind;
+use device::disk::Paths;
 use device::filed::Filed;
 use device::kept::WORDS;
 use device::open::open;
-use device::replace::Paths;
 use serve::serve;
 use serving::wake::wake;
 use std::env;

@@ -7,6 +7,7 @@ ghost use Rattle.rehearsal.specs.Heard.{Heard};
 use calls::mind::Mind;
 use device::fused::Fused;
 use device::kept::{Dark, WORDS};
+use device::lent::Lent;
 use lines::line::Line;
 use lines::reply::Reply;
 use serving::answer::answer;
@@ -63,7 +64,7 @@ impl Herd {
     {
         self.line.set(line);
         let before = self.fuse.unwrap_or(u64::MAX);
-        let mut device = Fused::new(&mut self.words, before);
+        let mut device = Fused::new(Lent::new(&mut self.words), before);
         let done = answer(&mut device, &mut self.mind, &self.line, &mut self.reply);
         let left = device.left();
         self.stores = self.stores.saturating_add(before.saturating_sub(left));
