@@ -10,7 +10,7 @@ use Rattle.model.specs.World.{is_ready_in, may_run}
 use Rattle.calls.specs.Meaning.{seens_of}
 use Rattle.calls.proofs.News.{seens_length}
 use Rattle.std.specs.Int.Digits.{AllBelowBase}
-use Rattle.lines.proofs.Writing.{flag_byte}
+use Rattle.wire.proofs.Pushing.{flag_byte}
 use Rattle.wire.proofs.Likeness.{flag_small}
 use Rattle.wire.proofs.Lengths.{length_seen_bytes}
 use Rattle.wire.proofs.CallsBack.{flags_seen}

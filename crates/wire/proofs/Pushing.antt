@@ -1,6 +1,6 @@
 -- Bytes pushed one part behind the other.
 -- Assumes nothing.
-use Rattle.std.proofs.Common.{◌≡◌, ℕ, suc, ◌/◌, ◌<◌, true, eqb, List, [], ◌∷◌, ◌++◌, length, get_or, take, drop, sym, ap, ◌∙◌, subst, append_assoc, append-nil, arith, length-append}
+use Rattle.std.proofs.Common.{◌≡◌, refl, ℕ, suc, ◌/◌, ◌<◌, Bool, true, false, eqb, List, [], ◌∷◌, ◌++◌, length, get_or, take, drop, sym, ap, ◌∙◌, subst, append_assoc, append-nil, arith, length-append}
 use mir.Val.{bool_byte}
 use Rattle.std.specs.Int.Digits.{AllBelowBase}
 use Rattle.std.proofs.lemmas.List.{take_at, drop_at, take-append-le, get_or_append_left}
@@ -12,7 +12,6 @@ use Rattle.std.proofs.lemmas.Bool.{lt-ltb}
 use Rattle.wire.specs.Fits.{spec_numbers, long_id, numbers_fit}
 use Rattle.calls.specs.Meaning.{seens_of}
 use Rattle.octets.proofs.Numbers.{length_take_under, bytes_of_value}
-use Rattle.lines.proofs.Writing.{flag_byte}
 use Rattle.std.proofs.ByRecursion.{All-take}
 use Rattle.wire.proofs.Again.{below_drop}
 
@@ -38,6 +37,10 @@ pub reported_fits : (k l n : ℕ) (xs : List Seen) → k < 65536 → l < 1844674
 reported_fits k l n xs p q r f = rw (lt-ltb k 65536 p, lt-ltb l 18446744073709551616 q, lt-ltb n 18446744073709551616 r) f
 
 -- A REPORT'S TASKS
+
+pub flag_byte : (b : Bool) → bool_byte b ≡ flag_of b
+flag_byte true = refl
+flag_byte false = refl
 
 -- the first task, and the others
 tasks_front : (piece left : Bytes) → length piece ≡ 9 → AllBelowBase 256 piece → seen_bytes (seens_of (piece ++ left)) ≡ take 8 piece ++ (flag_of (eqb (get_or piece 8 0) 1) ∷ seen_bytes (seens_of left))
