@@ -10,5 +10,6 @@ pub mod CallsAgain
 pub mod AnswersBack
 pub mod AnswersAgain
 pub mod Framing
+pub mod Herd
 pub mod Pushing
 pub mod Short

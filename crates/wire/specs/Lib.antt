@@ -5,3 +5,4 @@ pub mod Pushed
 pub mod Written
 pub mod Replies
 pub mod Answering
+pub mod Herd

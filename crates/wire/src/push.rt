@@ -1,5 +1,5 @@
 // Numbers, names and tags, each pushed behind the bytes that are there.
-ghost use Rattle.std.specs.Prelude.{◌≡◌, ◌/◌, ◌≤◌, ◌++◌, length, OnOk};
+ghost use Rattle.std.specs.Prelude.{◌≡◌, ◌/◌, ◌≤◌, ◌++◌, length, OnErr, OnOk};
 ghost use Rattle.model.specs.Wire.{bytes_of, name_bytes};
 ghost use Rattle.wire.specs.Pushed.{PushesTags};
 
@@ -9,7 +9,8 @@ use std::alloc::AllocError;
 
 // A number of any width.
 pub fn push_number<T: Number>(bytes: &mut Vec<u8>, n: T) -> Result<(), AllocError>
-    ensures { OnOk result (bytes.new.items ≡ bytes.old.items ++ bytes_of T.WIDTH (T.num n)) }
+    ensures ok { OnOk result (bytes.new.items ≡ bytes.old.items ++ bytes_of T.WIDTH (T.num n)) }
+    ensures err { OnErr result (bytes.new.items ≡ bytes.old.items) }
 {
     let mut room = [0; 8];
     let end = put_number(&mut room, 0, n);

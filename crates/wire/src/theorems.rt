@@ -1,6 +1,7 @@
 // What is shown of calls and answers as bytes, each on the contract of a small function.
 ghost use Rattle.model.specs.Answers.{FrameBack, NoOtherRuns, NoReportRuns, RunsBack};
 ghost use Rattle.wire.specs.Fits.{AnswersAgain, AnswersBack, CallsAgain, CallsBack, NoOtherAnswers, NoOtherCalls};
+ghost use Rattle.wire.specs.Herd.{HerdAnswersBack};
 
 // A call is read as it was written.
 pub fn calls_back() -> u8
@@ -40,6 +41,13 @@ pub fn answers_again() -> u8
 // Bytes that are those of no answer are read as none.
 pub fn no_other_answers() -> u8
     ensures { NoOtherAnswers }
+{
+    0
+}
+
+// Whatever words it has, what the herd answers is read as it means.
+pub fn herd_answers_back() -> u8
+    ensures { HerdAnswersBack }
 {
     0
 }
