@@ -114,6 +114,12 @@ pub fn new_amounts(w: &mut Writer) {
     w.reset(None, Some((count, least, most)));
 }
 
+pub fn much_wanted(w: &mut Writer) {
+    let count = 6 + w.below(8) as u16;
+    let least = w.below(4) as u16;
+    w.reset(None, Some((count, least, count + 2)));
+}
+
 pub fn nothing_wanted(w: &mut Writer) {
     w.reset(None, Some((0, 0, 0)));
 }
@@ -183,9 +189,9 @@ pub fn hex(w: &mut Writer) {
 
 const TAGGED: &str = "set x image 1 cpu 1 memory 1 count 1 least 0 most 1 tags 1,2,3,4,5,6,7,8";
 
-/// What is turned away for what it says.
+/// What is turned away for what it says, and what is no line for it.
 pub fn out_of_range(w: &mut Writer) {
-    let line: String = match w.below(12) {
+    let line: String = match w.below(16) {
         0 => "set one image 1 cpu 1 memory 1 count 1 least 1 most 1".into(),
         1 => "set x image 1 cpu 1 memory 1 count 2 least 3 most 4".into(),
         2 => "set x image 1 cpu 1 memory 1 count 3 least 0 most 2".into(),
@@ -197,7 +203,11 @@ pub fn out_of_range(w: &mut Writer) {
         8 => "add 9 cpu 1000000001 memory 1".into(),
         9 => "add 9 cpu 1 memory 1000000001".into(),
         10 => "add 9 cpu 1 memory 1 tags 1,2,3,4,5,6,7,8,9,10,11,12,13,14,15,16,17".into(),
-        _ => format!("show {}", "n".repeat(255)),
+        11 => format!("show {}", "n".repeat(255)),
+        12 => format!("end {}", "n".repeat(256)),
+        13 => format!("add 9 cpu 1 memory 1 tags 1{}", ",1".repeat(254)),
+        14 => format!("add 9 cpu 1 memory 1 tags 1{}", ",1".repeat(255)),
+        _ => format!("{TAGGED}{} apart", ",9".repeat(247)),
     };
     w.say(line);
 }

@@ -126,18 +126,26 @@ fn lost(w: &mut Writer) {
     go_on(w, 120, &acts);
 }
 
-/// Eight machines that are full.
+/// Eight machines that are full, and more is wanted.
 fn crowded(w: &mut Writer) {
     machines(w, 8, 5);
-    for job in JOBS {
+    for job in &JOBS[..4] {
         w.set(job, 8);
     }
-    w.say("rounds 5 100");
-    let acts: [Act; 13] = [
-        (3, new_amounts),
-        (2, new_image),
-        (2, set),
-        (3, rounds),
+    for job in &JOBS[4..] {
+        let cpu = 1 + w.below(3);
+        let least = w.below(3);
+        w.say(format!(
+            "set {job} image 1 cpu {cpu} memory 0 count 12 least {least} most 14"
+        ));
+    }
+    w.say("rounds 12 100");
+    let acts: [Act; 14] = [
+        (1, new_amounts),
+        (2, much_wanted),
+        (4, new_image),
+        (1, set),
+        (4, rounds),
         (4, exchange),
         (12, ways),
         (1, fall),
