@@ -21,7 +21,7 @@ pub enum Trouble {
     #[error("say `agent MACHINE` or `agent MACHINE DIR`, with the machine's number, 0 to 65535, and the directory of the file `life`")]
     Usage,
     #[error("no memory to begin with")]
-    Memory(#[from(alloc)] AllocError),
+    Memory,
     #[error("the arguments cannot be read: {0}")]
     Arguments(io::Error),
     #[error("`life` cannot be read: {0}; see that it is a file that may be read")]
@@ -34,6 +34,12 @@ pub enum Trouble {
     Last,
     #[error("lines cannot be read or printed any more: {0}")]
     Lines(io::Error),
+}
+
+impl From<AllocError> for Trouble {
+    fn from(_e: AllocError) -> Trouble {
+        Trouble::Memory
+    }
 }
 
 impl From<Unfit> for Trouble {
