@@ -30,6 +30,13 @@ impl<K: Kept> Fused<K> {
         Fused { kept, left: stores }
     }
 
+    // Dark after so many stores from here on.
+    pub fn set_left(&mut self, stores: u64)
+        ensures { (self.new.kept ≡ self.old.kept) × (self.new.left ≡ stores) }
+    {
+        self.left = stores;
+    }
+
     // How many more stores there are.
     pub fn left(&self) -> u64
         ensures { result ≡ self.now.left }

@@ -19,3 +19,4 @@ pub mod said;
 pub mod show;
 pub mod stage;
 pub mod tally;
+pub mod words;
