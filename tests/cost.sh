@@ -30,6 +30,6 @@ took() {
 good=$(took good)
 damaged=$(took damaged)
 echo "$lines good reports: $good ms, $(grep -c '^out ................02' good.out) answered by a run"
-echo "$lines damaged ones: $damaged ms, $(grep -c '0001$' damaged.out) turned away by 1"
+echo "$lines damaged ones: $damaged ms, $(grep -c '^out 00000006........0001$' damaged.out) turned away by 1"
 # A tenth more is allowed for the clock.
 [ "$damaged" -le $((good + good / 10 + 20)) ]
