@@ -1,4 +1,7 @@
 // Does what really runs keep what is promised.
+ghost use Rattle.std.specs.Prelude.{◌≡◌};
+ghost use Rattle.rehearsal.specs.Checks.{SharedAs, TooAs, TwiceAs};
+
 use crate::machines::Machines;
 use crate::mosts::Mosts;
 use crate::tally::{Sum, count};
@@ -63,15 +66,21 @@ pub fn first_over(mind: &Mind, agents: &[Agent]) -> Option<Over> {
 }
 
 // The first of these machines that runs that task, too.
-fn runs_too(agents: &[Agent], task: TaskId) -> Option<MachineId> {
-    agents
-        .iter()
-        .find(|agent| runs(agent.seens(), task))
-        .map(|agent| agent.head().machine)
+fn runs_too(agents: &[Agent], task: TaskId) -> Option<MachineId>
+    ensures { TooAs task.0 agents.now result }
+{
+    for agent in agents {
+        if runs(agent.seens(), task) {
+            return Some(agent.head().machine);
+        }
+    }
+    None
 }
 
 // The first task of one machine that one of these others runs, too.
-fn shared(seens: &[Seen], first: MachineId, others: &[Agent]) -> Option<Twice> {
+fn shared(seens: &[Seen], first: MachineId, others: &[Agent]) -> Option<Twice>
+    ensures { SharedAs seens.now first others.now result }
+{
     for seen in seens {
         if let Some(second) = runs_too(others, seen.task) {
             return Some(Twice {
@@ -85,12 +94,13 @@ fn shared(seens: &[Seen], first: MachineId, others: &[Agent]) -> Option<Twice> {
 }
 
 // The first task that runs at two places.
-pub fn first_twice(agents: &[Agent]) -> Option<Twice> {
+pub fn first_twice(agents: &[Agent]) -> Option<Twice>
+    ensures { TwiceAs agents.now result }
+{
     let mut rest = agents;
-    while let [agent, others @ ..] = rest {
-        let found = shared(agent.seens(), agent.head().machine, others);
-        if found.is_some() {
-            return found;
+    while let Some((agent, others)) = rest.split_first() {
+        if let Some(found) = shared(agent.seens(), agent.head().machine, others) {
+            return Some(found);
         }
         rest = others;
     }
