@@ -19,6 +19,12 @@ pub fn show_job(w: &mut Writer) {
     w.say(format!("show {job}"));
 }
 
+/// Mostly with times that machines can keep up with.
+pub fn settle(w: &mut Writer) {
+    let ms = w.pick(&[1, 1000, 29_999, 30_000, 30_001]);
+    w.say(format!("settle {ms}"));
+}
+
 pub fn rounds(w: &mut Writer) {
     let n = 1 + w.below(4);
     let ms = w.pick(&[0, 1, 1000, 9_999, 15_000]);

@@ -29,6 +29,10 @@ impl Kept {
         self.fuse = Some(stores);
     }
 
+    pub fn stay_up(&mut self) {
+        self.fuse = None;
+    }
+
     /// How many words were stored since this was last asked.
     pub fn take_stores(&mut self) -> u64 {
         std::mem::take(&mut self.stores)

@@ -21,6 +21,7 @@ pub fn write(w: &mut Writer, seed: u64) {
     }
     w.say("lines good");
     w.say("rounds 2 1");
+    w.say("settle 1000");
     w.say("show");
     w.say("check");
     w.say("stores");
@@ -86,10 +87,11 @@ fn rollout(w: &mut Writer) {
         ));
     }
     w.say("rounds 4 1000");
-    let acts: [Act; 10] = [
+    let acts: [Act; 11] = [
         (4, new_image),
         (2, new_amounts),
         (4, rounds),
+        (1, settle),
         (3, exchange),
         (3, ready),
         (8, ways),
@@ -140,12 +142,13 @@ fn crowded(w: &mut Writer) {
         ));
     }
     w.say("rounds 12 100");
-    let acts: [Act; 14] = [
+    let acts: [Act; 15] = [
         (1, new_amounts),
         (2, much_wanted),
         (4, new_image),
         (1, set),
         (4, rounds),
+        (1, settle),
         (4, exchange),
         (12, ways),
         (1, fall),
@@ -167,7 +170,7 @@ fn gone(w: &mut Writer) {
         w.set(job, 4);
     }
     w.say("rounds 3 1000");
-    let acts: [Act; 13] = [
+    let acts: [Act; 14] = [
         (3, end),
         (2, close),
         (2, reopen),
@@ -176,6 +179,7 @@ fn gone(w: &mut Writer) {
         (2, set),
         (2, new_amounts),
         (3, rounds),
+        (1, settle),
         (3, exchange),
         (6, ways),
         (7, look),

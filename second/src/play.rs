@@ -1,6 +1,7 @@
 //! Playing a script: a herd, up to eight machines, and the lines between.
 
 mod post;
+mod settle;
 
 use crate::agent::{Agent, report_line};
 use crate::bytes::{call_bytes, framed, read_answer, unframed};
@@ -98,6 +99,7 @@ impl Play {
             Command::Dark(stores) => self.dark(stores),
             Command::Stores => self.stores(),
             Command::Rounds(n, ms) => self.rounds(n, ms),
+            Command::Settle(ms) => return Ok(self.settle(ms)),
             Command::Hex(on) => self.set_hex(on),
             Command::Show => self.show(),
             Command::Check => return Ok(self.check()),

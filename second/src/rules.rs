@@ -207,7 +207,7 @@ impl State {
         watch(self);
     }
 
-    fn takes(&self, machine: &Machine, task: &Task) -> bool {
+    pub fn takes(&self, machine: &Machine, task: &Task) -> bool {
         if !machine.open || !self.is_present(machine) {
             return false;
         }

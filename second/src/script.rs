@@ -20,13 +20,14 @@ pub enum Command {
     Dark(u64),
     Stores,
     Rounds(u16, u64),
+    Settle(u64),
     Hex(bool),
     Show,
     Check,
 }
 
 /// First words, and what a command looks like.
-const USAGES: [(&str, &str); 24] = [
+const USAGES: [(&str, &str); 25] = [
     (
         "set",
         "set NAME image I cpu C memory M count N least L most X [tags T,T,..] [apart]",
@@ -52,6 +53,7 @@ const USAGES: [(&str, &str); 24] = [
     ("dark", "dark N"),
     ("stores", "stores"),
     ("rounds", "rounds N MS"),
+    ("settle", "settle MS"),
     ("hex", "hex on, or hex off"),
     ("check", "check"),
 ];
@@ -119,6 +121,7 @@ fn other(words: &[&str]) -> Option<Command> {
         ["dark", stores] => Command::Dark(number(stores)?),
         ["stores"] => Command::Stores,
         ["rounds", n, ms] => Command::Rounds(number(n)?, number(ms)?),
+        ["settle", ms] => Command::Settle(number(ms)?),
         ["hex", "on"] => Command::Hex(true),
         ["hex", "off"] => Command::Hex(false),
         ["show"] => Command::Show,

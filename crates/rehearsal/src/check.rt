@@ -142,7 +142,7 @@ fn put_most(out: &mut String, mind: &Mind, mosts: &Mosts) -> Result<bool, AllocE
     for most in mosts.list() {
         let name = most.name.as_str();
         let bytes = name.as_bytes();
-        let tasks = count(mind, |row| row.kind().is_named(&bytes));
+        let tasks = count(mind, |row, _| row.kind().is_named(&bytes));
         if tasks > usize::from(most.highest) {
             write!(out, "check most: {name} has {tasks} tasks, ")?;
             writeln!(out, "and its most was never above {}", most.highest)?;

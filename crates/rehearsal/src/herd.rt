@@ -46,6 +46,12 @@ impl Herd {
         self.fails = true;
     }
 
+    // Its power does not fail.
+    pub fn stay_up(&mut self) {
+        self.words.set_left(ENDLESS);
+        self.fails = false;
+    }
+
     // How many words were stored since that was last asked.
     pub fn take_stores(&mut self) -> u64 {
         let stores = self.stores;

@@ -118,6 +118,7 @@ impl Stage {
                 writeln!(self.said, "stores: {stores}")?;
             }
             Command::Rounds(times, ms) => self.rounds(times, ms)?,
+            Command::Settle(ms) => self.settle(ms)?,
             Command::Hex(hex) => self.set_hex(hex)?,
             Command::ShowAll => self.look()?,
             Command::Check => self.check()?,

@@ -11,7 +11,7 @@ use wire::reply::Reply;
 
 impl Stage {
     // Each machine reports.
-    fn report_all(&mut self) -> Result<(), AllocError> {
+    pub(crate) fn report_all(&mut self) -> Result<(), AllocError> {
         for place in 0..self.machines.agents().len() {
             self.report(place, Voice::Silent)?;
         }

@@ -75,7 +75,7 @@ fn put_counted(
 
 // Does the herd count that task on that machine.
 fn is_counted(mind: &Mind, machine: MachineId, task: TaskId) -> bool {
-    count(mind, |row| {
+    count(mind, |row, _| {
         !row.is_waiting() && row.machine() == machine && row.id() == task
     }) > 0
 }
@@ -149,7 +149,7 @@ fn put_waiting(out: &mut String, mind: &Mind) -> Result<(), AllocError> {
             out.push_str("\n")?;
         }
     }
-    if count(mind, |row| row.is_waiting()) == 0 {
+    if count(mind, |row, _| row.is_waiting()) == 0 {
         out.push_str("waiting: none\n")?;
     }
     Ok(())

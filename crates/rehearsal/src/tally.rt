@@ -30,14 +30,14 @@ pub struct Phases {
     pub ending: usize,
 }
 
-// How many tasks are so.
-pub fn count<F: Fn(TaskRow) -> bool>(mind: &Mind, is_so: F) -> usize
+// How many tasks are so, by their rows and phases.
+pub fn count<F: Fn(TaskRow, Phase) -> bool>(mind: &Mind, is_so: F) -> usize
     requires { F.IsAlwaysCallable is_so }
 {
     let mut count = 0usize;
     for i in 0..TASKS.in_use(&mind.home) {
         let row = TASKS.row(&mind.home, i);
-        if !row.is_hole() && is_so(row) {
+        if !row.is_hole() && is_so(row, row.phase(mind.live[MAX_MACHINES + i])) {
             count = count.saturating_add(1);
         }
     }

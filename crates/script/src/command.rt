@@ -68,6 +68,8 @@ pub enum Command<'a> {
     Stores,
     // How often, and by how many ms the time goes on each time.
     Rounds(u16, u64),
+    // By how many ms the time goes on each time.
+    Settle(u64),
     Hex(bool),
     ShowAll,
     Check,

@@ -137,6 +137,7 @@ fn doing<'a>(words: &[&str]) -> Option<Command<'a>> {
         ["dark", stores] => Some(Command::Dark(long(stores)?)),
         ["stores"] => Some(Command::Stores),
         ["rounds", times, ms] => Some(Command::Rounds(short(times)?, long(ms)?)),
+        ["settle", ms] => Some(Command::Settle(long(ms)?)),
         ["hex", "on"] => Some(Command::Hex(true)),
         ["hex", "off"] => Some(Command::Hex(false)),
         ["show"] => Some(Command::ShowAll),

@@ -27,6 +27,7 @@ pub fn usage(word: &str) -> Option<&'static str> {
         "dark" => Some("dark N"),
         "stores" => Some("stores"),
         "rounds" => Some("rounds N MS"),
+        "settle" => Some("settle MS"),
         "hex" => Some("hex on, or hex off"),
         "check" => Some("check"),
         _ => None,
