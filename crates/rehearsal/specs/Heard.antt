@@ -12,7 +12,7 @@ use Rattle.rehearsal.specs.declared.words.Words.{Words}
 
 -- what the kept words are
 abbrev pub memory_of : Fused Words → Memory
-memory_of f = slice_index f.kept.words
+memory_of f = slice_index f.kept.words.items
 
 -- from a mind and kept words, by this line, to a reply, a mind and kept words
 pub record Heard {V E : Type 0} (line : Bytes) (x : Held) (m : Memory) (r : Result V E) (reply : Bytes) (y : Held) (n : Memory) : Type 0 where

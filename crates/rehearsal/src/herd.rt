@@ -1,7 +1,8 @@
 // The herd in memory: its kept words, what it has in mind, and how many words it may yet store.
 ghost use Rattle.std.specs.Prelude.{◌≡◌, take};
 ghost use Rattle.lines.specs.Overlong.{AreBytes};
-ghost use Rattle.serving.specs.Herd.{held_by};
+ghost use Rattle.device.specs.Follows.{Ended};
+ghost use Rattle.serving.specs.Herd.{held_by, herd_code};
 ghost use Rattle.rehearsal.specs.Heard.{Heard, memory_of};
 
 use crate::words::Words;
@@ -12,6 +13,7 @@ use lines::line::Line;
 use lines::reply::Reply;
 use serving::answer::answer;
 use serving::wake::wake;
+use std::alloc::{AllocError, Global};
 
 // As many stores as there may be where no power fails.
 const ENDLESS: u64 = u64::MAX;
@@ -29,15 +31,15 @@ pub struct Herd {
 }
 
 impl Herd {
-    pub fn new() -> Self {
-        Herd {
-            words: Fused::new(Words::new(), ENDLESS),
+    pub fn new(heap: Global) -> Result<Self, AllocError> {
+        Ok(Herd {
+            words: Fused::new(Words::new(heap)?, ENDLESS),
             mind: Mind::new(),
             line: Line::new(),
             reply: Reply::new(),
             fails: false,
             stores: 0,
-        }
+        })
     }
 
     // Its power fails after so many more stores.
@@ -70,6 +72,27 @@ impl Herd {
         self.reply.bytes()
     }
 
+    // Where its power is not to fail, it may store as much again.
+    fn go_on(&mut self)
+        ensures words { self.new.words.kept ≡ self.old.words.kept }
+        ensures mind { self.new.mind ≡ self.old.mind }
+        ensures reply { self.new.reply ≡ self.old.reply }
+    {
+        if !self.fails {
+            self.words.set_left(ENDLESS);
+        }
+    }
+
+    // Its power is back, and it wakes.
+    fn come_back(&mut self)
+        ensures words { self.new.words.kept ≡ self.old.words.kept }
+        ensures mind { Ended herd_code.wakes (memory_of self.old.words) (held_by self.new.mind) (memory_of self.old.words) }
+    {
+        let _ = wake(&self.words, &mut self.mind);
+        self.words.set_left(ENDLESS);
+        self.fails = false;
+    }
+
     // A line comes, and its answer is the reply; or the power fails, there is no answer, and the herd wakes.
     pub fn hear(&mut self, line: &[u8]) -> Result<(), Dark>
         ensures { AreBytes line.now → Heard line.now (held_by self.old.mind) (memory_of self.old.words) result (take self.new.reply.len self.new.reply.bytes) (held_by self.new.mind) (memory_of self.new.words) }
@@ -79,13 +102,15 @@ impl Herd {
         let done = answer(&mut self.words, &mut self.mind, &self.line, &mut self.reply);
         let stored = before.saturating_sub(self.words.left());
         self.stores = self.stores.saturating_add(stored);
-        if done.is_err() {
-            let _ = wake(&self.words, &mut self.mind);
-            self.fails = false;
+        match done {
+            Ok(()) => {
+                self.go_on();
+                Ok(())
+            }
+            Err(dark) => {
+                self.come_back();
+                Err(dark)
+            }
         }
-        if !self.fails {
-            self.words.set_left(ENDLESS);
-        }
-        done
     }
 }

@@ -31,13 +31,13 @@ fn legible(heap: Global, line: &[u8]) -> Result<String, AllocError> {
 }
 
 impl Rehearsal {
-    pub fn new(heap: Global) -> Self {
-        Rehearsal {
+    pub fn new(heap: Global) -> Result<Self, AllocError> {
+        Ok(Rehearsal {
             heap,
-            stage: Stage::new(heap),
+            stage: Stage::new(heap)?,
             number: 0,
             fault: None,
-        }
+        })
     }
 
     fn obey(&mut self, line: &[u8]) -> Result<(), Bad> {

@@ -45,10 +45,10 @@ pub(crate) enum Voice {
 }
 
 impl Stage {
-    pub fn new(heap: Global) -> Self {
-        Stage {
+    pub fn new(heap: Global) -> Result<Self, AllocError> {
+        Ok(Stage {
             heap,
-            herd: Herd::new(),
+            herd: Herd::new(heap)?,
             machines: Machines::new(heap),
             post: Post::new(heap),
             mosts: Mosts::new(heap),
@@ -58,7 +58,7 @@ impl Stage {
             clock: 0,
             darks: 0,
             failed: false,
-        }
+        })
     }
 
     // A frame goes to the herd; no answer where the power fails.

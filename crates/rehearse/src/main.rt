@@ -42,7 +42,7 @@ impl Reading {
 // Plays every line to the end of standard input, of which the last need not be ended; whether all went well.
 fn run(rt: &HostRuntime) -> Result<bool, Trouble> {
     let mut reading = Reading {
-        rehearsal: Rehearsal::new(rt.alloc()),
+        rehearsal: Rehearsal::new(rt.alloc())?,
         line: Vec::new(rt.alloc()),
     };
     // Why it stopped, where that is no error of reading: `each_piece` hands on none but those, and any stops it.
