@@ -1,0 +1,14 @@
+mod Steps
+mod Falls
+mod Stuck
+mod Origins
+mod Scenes
+mod Knows
+mod Comes
+mod Quiets
+mod Rests
+mod Orderlies
+mod Answered
+mod Begins
+mod Lines
+mod Made

@@ -1,0 +1,380 @@
+-- A round can always be made, as long as numbers are left.
+-- Assumes nothing.
+use Rattle.std.proofs.Common.{◌≡◌, ℕ, suc, ◌+◌, ◌<◌, ◌≤◌, Bool, true, false, cond, not, ◌&&◌, ◌||◌, eqb, ◌⊎◌, List, [], ◌∷◌, ◌++◌, length, sym, refl, ap, ◌∙◌, subst, inl, inr, append_assoc, arith}
+use mathlib.Core.List.{Memᴰ}
+use Rattle.std.proofs.lemmas.Bool.{true≢false, and_parts, and_from, or_left, or_right, eqb-true, eq-eqb}
+use Rattle.model.specs.State.{Machine, State, is_machine}
+use Rattle.model.specs.Lists.{some, find}
+use Rattle.model.specs.Settle.{settle}
+use Rattle.model.specs.Calls.{Seen, Report, Order, Run, heard_from, does, heard}
+use Rattle.model.specs.World.{Agent, Word, Up, Back, World, put, is_seen, is_ready_in, may_run, obeys, Step, Reach, reported, running}
+use Rattle.rest.specs.Rounds.{Anyhow, Obeyed, Calm, Course}
+use Rattle.rest.specs.Rest.{next_report, said_by, RoundCanBe}
+use Rattle.model.proofs.Lists.{from_true, bool, In, in_from, in_to, some_from, some_at, pass_change, find_in, pass_to}
+use Rattle.model.proofs.Settles.{unplaced_alike}
+use Rattle.model.proofs.Hold.{once_machine}
+use Rattle.model.proofs.Worlds.{Inv, inv_reach, News, is_news, hears_is, put_is}
+use Rattle.rest.proofs.Origins.{says_ready}
+use Rattle.rest.proofs.Answered.{is_answered}
+use Rattle.rest.proofs.Lines.{run_reach}
+
+never : {C : Type 0} → ◌≡◌ {A = ℕ} 0 1 → C
+never z = absurd (omega arith)
+
+-- ONE ANSWER TO A REPORT
+
+abbrev One : List Word → ℕ → Agent → Type 0
+One ws i a = (os ps : List Order) → In (Back i a.life a.number os) ws → In (Back i a.life a.number ps) ws → os ≡ ps
+
+not_up : (i l n : ℕ) (xs : List Seen) (j l' n' : ℕ) (os : List Order) (ws : List Word) → In (Back j l' n' os) (Up i l n xs ∷ ws) → In (Back j l' n' os) ws
+not_up i l n xs j l' n' os ws (inl p) = never (cc)
+not_up i l n xs j l' n' os ws (inr k) = k
+
+one_step : {w v : World} → Inv w → ((i : ℕ) → One w.sent i (w.agent i)) → Step w v → (i : ℕ) → One v.sent i (v.agent i)
+one_step h f (Step.says w c nr nf) = f
+one_step h f (Step.forgets w k) = put_is (One w.sent) k _ w.agent (λ os ps m q. let z : (w.agent k).life + 1 ≤ (w.agent k).life = ((h.agents k).backs _ _ os m).0 in absurd (omega arith)) (λ j e. f j)
+one_step h f (Step.forgets_off w k n o e) = f
+one_step h f (Step.falls w) = f
+one_step h f (Step.comes_up w k) = put_is (One w.sent) k _ w.agent (λ os ps m q. let z : (w.agent k).life + 1 ≤ (w.agent k).life = ((h.agents k).backs _ _ os m).0 in absurd (omega arith)) (λ j e. f j)
+one_step h f (Step.reports w i l) =
+    put_is (One (Up i (w.agent i).life ((w.agent i).number + 1) (may_run (w.agent i).runs (w.agent i).ordered) ∷ w.sent)) i _ w.agent (λ os ps m q. let z : (w.agent i).number + 1 ≤ (w.agent i).number = ((h.agents i).backs _ _ os (not_up i _ _ _ i _ _ os w.sent m)).1 refl in absurd (omega arith)) (λ j e os ps m q. f j os ps (not_up i _ _ _ j _ _ os w.sent m) (not_up i _ _ _ j _ _ ps w.sent q))
+one_step h f (Step.hears w i l n xs k os m r) = λ j. both j
+  where
+    Q : ℕ → List Order → State → Type 0
+    Q k' os' s = (x : Machine) × (ms : List Machine) × (find (is_machine i) w.herd.machines ≡ x ∷ ms) × (k' ≡ n) × News x l n
+
+    q : Q k os (does (Report i l n xs) w.herd).state
+    q = hears_is Q i l n xs w.herd (λ x ms e g. (x, ms, e, refl, is_news x l n g)) k os r
+
+    fresh : (j l' n' : ℕ) (ps : List Order) → j ≡ i → l' ≡ l → n' ≡ k → l' ≡ (w.agent j).life → In (Back j l' n' ps) w.sent → ⊥
+    fresh j l' n' ps a b c d z =
+        let e = ((h.agents j).backs l' n' ps z).2 d in let g = find_in (is_machine i) w.herd.machines q.0 q.1 q.2 in
+        let y : e.0 ≡ q.0 = once_machine w.herd.machines h.sound.fine.machines e.0 q.0 e.1.0 g.0 (e.1.1 ∙ (a ∙ eqb-true i q.0.num g.1)) in
+        late q.4 (sym (ap (λ (z : Machine). z.life) y) ∙ (e.1.2 ∙ b)) (subst (λ (z : Machine). n' ≤ z.number) y e.2) (c ∙ q.3)
+      where
+        late : News q.0 l n → q.0.life ≡ l → n' ≤ q.0.number → n' ≡ n → ⊥
+        late (inl z) x y t = omega arith
+        late (inr z) x y t = omega arith
+
+    both : (j : ℕ) (os' ps : List Order) → In (Back j (w.agent j).life (w.agent j).number os') (Back i l k os ∷ w.sent) → In (Back j (w.agent j).life (w.agent j).number ps) (Back i l k os ∷ w.sent) → os' ≡ ps
+    both j os' ps (inl p) (inl q') = cc
+    both j os' ps (inl p) (inr q') = let a : j ≡ i = cc in let b : (w.agent j).life ≡ l = cc in let c : (w.agent j).number ≡ k = cc in absurd (fresh j _ _ ps a b c refl q')
+    both j os' ps (inr p) (inl q') = let a : j ≡ i = cc in let b : (w.agent j).life ≡ l = cc in let c : (w.agent j).number ≡ k = cc in absurd (fresh j _ _ os' a b c refl p)
+    both j os' ps (inr p) (inr q') = f j os' ps p q'
+one_step h f (Step.hears_not w i l n xs m r) = f
+one_step h f (Step.obeyed w i os m) = put_is (One w.sent) i _ w.agent (f i) (λ j e. f j)
+one_step h f (Step.starts w i o m n) = put_is (One w.sent) i _ w.agent (f i) (λ j e. f j)
+one_step h f (Step.becomes w i before behind x b e) = put_is (One w.sent) i _ w.agent (f i) (λ j e'. f j)
+one_step h f (Step.dies w i before behind x e) = put_is (One w.sent) i _ w.agent (f i) (λ j e'. f j)
+
+pub one_reach : {w : World} → Reach w → (i : ℕ) → One w.sent i (w.agent i)
+one_reach Reach.begin = λ i os ps k. absurd k
+one_reach (Reach.then r s) = one_step (inv_reach r) (one_reach r) s
+
+-- AN AGENT'S OWN STEPS
+
+put_at : (i : ℕ) (a : Agent) (f : ℕ → Agent) → put i a f i ≡ a
+put_at i a f = ap (λ (b : Bool). cond b a (f i)) (eq-eqb i i refl)
+
+put_off : (i j : ℕ) (a : Agent) (f : ℕ → Agent) → eqb j i ≡ false → put i a f j ≡ f j
+put_off i j a f e = ap (λ (b : Bool). cond b a (f j)) e
+
+pub record Near (i : ℕ) (w v : World) : Type 0 where
+  pub herd : v.herd ≡ w.herd
+  pub sent : v.sent ≡ w.sent
+  pub life : (v.agent i).life ≡ (w.agent i).life
+  pub number : (v.agent i).number ≡ (w.agent i).number
+  pub ordered : (v.agent i).ordered ≡ (w.agent i).ordered
+  pub others : (j : ℕ) → eqb j i ≡ false → v.agent j ≡ w.agent j
+
+near_refl : (i : ℕ) (w : World) → Near i w w
+near_refl i w = record { herd = refl; sent = refl; life = refl; number = refl; ordered = refl; others = λ j e. refl }
+
+near_then : {i : ℕ} {w u v : World} → Near i w u → Near i u v → Near i w v
+near_then p q = record { herd = q.herd ∙ p.herd; sent = q.sent ∙ p.sent; life = q.life ∙ p.life; number = q.number ∙ p.number; ordered = q.ordered ∙ p.ordered; others = λ j e. q.others j e ∙ p.others j e }
+
+near_put : (i : ℕ) (w : World) (rs : List Seen) → Near i w (record { herd = w.herd; agent = put i (running rs (w.agent i)) w.agent; sent = w.sent })
+near_put i w rs =
+    let e = put_at i (running rs (w.agent i)) w.agent in
+    record { herd = refl; sent = refl; life = ap (λ (a : Agent). a.life) e; number = ap (λ (a : Agent). a.number) e; ordered = ap (λ (a : Agent). a.ordered) e; others = λ j d. put_off i j (running rs (w.agent i)) w.agent d }
+
+abbrev Sees : World → ℕ → ℕ → Type 0
+Sees w i k = some (is_seen k) (w.agent i).runs ≡ true
+
+some_more : (f : Seen → Bool) (x : Seen) (xs : List Seen) → some f xs ≡ true → some f (x ∷ xs) ≡ true
+unfolding some
+some_more f x xs e = or_right (f x) (some f xs) e
+
+some_first : (f : Seen → Bool) (x : Seen) (xs : List Seen) → f x ≡ true → some f (x ∷ xs) ≡ true
+unfolding some
+some_first f x xs e = or_left (f x) (some f xs) e
+
+some_swap : (f : Seen → Bool) (before behind : List Seen) (x y : Seen) → f y ≡ f x → some f (before ++ y ∷ behind) ≡ some f (before ++ x ∷ behind)
+unfolding some
+some_swap f [] behind x y e = ap (λ (b : Bool). b || some f behind) e
+some_swap f (b ∷ bs) behind x y e = ap (λ (c : Bool). f b || c) (some_swap f bs behind x y e)
+
+abbrev Started : ℕ → List Order → World → Type 0
+Started i os w = (v : World) × Course Anyhow [] w v × Near i w v × ((k : ℕ) → Sees w i k → Sees v i k) × ((o : Order) → In o os → Sees v i o.id)
+
+start_all : (i : ℕ) (os : List Order) (w : World) → ((o : Order) → In o os → In o (w.agent i).ordered) → Started i os w
+start_all i [] w h = (w, Course.stop w, near_refl i w, λ k s. s, λ o j. absurd j)
+start_all i (o ∷ os) w h = pick (some (is_seen o.id) (w.agent i).runs) refl (λ u g. start_all i os u g)
+  where
+    more : (u : World) → Sees u i o.id → (z : Started i os u) → (p : Order) → In p (o ∷ os) → Sees z.0 i p.id
+    more u s z p (inl e) = subst (λ (q : Order). Sees z.0 i q.id) (sym e) (z.3 o.id s)
+    more u s z p (inr j) = z.4 p j
+
+    x : Seen
+    x = record { id = o.id; ready = false }
+
+    u₁ : World
+    u₁ = record { herd = w.herd; agent = put i (running (x ∷ (w.agent i).runs) (w.agent i)) w.agent; sent = w.sent }
+
+    at : u₁.agent i ≡ running (x ∷ (w.agent i).runs) (w.agent i)
+    at = put_at i (running (x ∷ (w.agent i).runs) (w.agent i)) w.agent
+
+    keeps : (k : ℕ) → Sees w i k → Sees u₁ i k
+    keeps k s = ap (λ (a : Agent). some (is_seen k) a.runs) at ∙ some_more (is_seen k) x (w.agent i).runs s
+
+    sees : Sees u₁ i o.id
+    sees = ap (λ (a : Agent). some (is_seen o.id) a.runs) at ∙ some_first (is_seen o.id) x (w.agent i).runs (eq-eqb o.id o.id refl)
+
+    pick : (b : Bool) → some (is_seen o.id) (w.agent i).runs ≡ b → ((u : World) → ((p : Order) → In p os → In p (u.agent i).ordered) → Started i os u) → Started i (o ∷ os) w
+    pick true e rec = let z = rec w (λ p j. h p (inr j)) in (z.0, z.1, z.2, z.3, more w e z)
+    pick false e rec =
+        let z = rec u₁ (λ p j. subst (λ (qs : List Order). In p qs) (sym (ap (λ (a : Agent). a.ordered) at)) (h p (inr j))) in
+        (z.0, Course.go (Calm.starts w i o (in_to o (w.agent i).ordered (h o (inl refl))) (from_true _ (ap not e))) tt z.1, near_then (near_put i w (x ∷ (w.agent i).runs)) z.2, λ k s. z.3 k (keeps k s), more u₁ sees z)
+
+abbrev Readied : ℕ → World → Type 0
+Readied i w = (v : World) × Course Anyhow [] w v × Near i w v × ((k : ℕ) → Sees w i k → Sees v i k) × ((x : Seen) → In x (v.agent i).runs → x.ready ≡ true)
+
+in_both : {A : Type 0} (a : A) (xs ys : List A) → In a (xs ++ ys) → In a xs ⊎ In a ys
+in_both a [] ys i = inr i
+in_both a (x ∷ xs) ys (inl e) = inl (inl e)
+in_both a (x ∷ xs) ys (inr i) = elim (in_both a xs ys i) [ inl j ↦ inl (inr j) | inr j ↦ inr j ]
+
+ready_all : (i : ℕ) (behind before : List Seen) (w : World) → (w.agent i).runs ≡ before ++ behind → ((x : Seen) → In x before → x.ready ≡ true) → Readied i w
+ready_all i [] before w e h = (w, Course.stop w, near_refl i w, λ k s. s, λ x j. elim (in_both x before [] (subst (λ (xs : List Seen). In x xs) e j)) [ inl k ↦ h x k | inr k ↦ absurd k ])
+ready_all i (x ∷ behind) before w e h = join (ready_all i behind (before ++ (y ∷ [])) u₁ (ap (λ (a : Agent). a.runs) at ∙ sym (append_assoc before (y ∷ []) behind)) (λ z j. elim (in_both z before (y ∷ []) j) [ inl k ↦ h z k | inr k ↦ last z k ]))
+  where
+    y : Seen
+    y = record { id = x.id; ready = true }
+
+    rs : List Seen
+    rs = before ++ y ∷ behind
+
+    u₁ : World
+    u₁ = record { herd = w.herd; agent = put i (running rs (w.agent i)) w.agent; sent = w.sent }
+
+    at : u₁.agent i ≡ running rs (w.agent i)
+    at = put_at i (running rs (w.agent i)) w.agent
+
+    last : (z : Seen) → In z (y ∷ []) → z.ready ≡ true
+    last z (inl p) = ap (λ (v : Seen). v.ready) p
+    last z (inr p) = absurd p
+
+    keeps : (k : ℕ) → Sees w i k → Sees u₁ i k
+    keeps k s = ap (λ (a : Agent). some (is_seen k) a.runs) at ∙ (some_swap (is_seen k) before behind x y refl ∙ (sym (ap (some (is_seen k)) e) ∙ s))
+
+    join : Readied i u₁ → Readied i w
+    join z = (z.0, Course.go (Calm.becomes w i before behind x true e) tt z.1, near_then (near_put i w rs) z.2, λ k s. z.3 k (keeps k s), z.4)
+
+-- THE ANSWER THAT IT HAS IS OBEYED
+
+find_back : (i l n : ℕ) (ws : List Word) → ((os : List Order) × In (Back i l n os) ws) ⊎ ((os : List Order) → In (Back i l n os) ws → ⊥)
+find_back i l n [] = inr (λ os k. k)
+find_back i l n (Up j l' n' xs ∷ ws) = elim (find_back i l n ws) [ inl (os, k) ↦ inl (os, inr k) | inr f ↦ inr (λ os k. f os (not_up j l' n' xs i l n os ws k)) ]
+find_back i l n (Back j l' n' ps ∷ ws) = pick (bool ((eqb i j && eqb l l') && eqb n n')) (find_back i l n ws)
+  where
+    Z : Type 0
+    Z = ((os : List Order) × In (Back i l n os) (Back j l' n' ps ∷ ws)) ⊎ ((os : List Order) → In (Back i l n os) (Back j l' n' ps ∷ ws) → ⊥)
+
+    neither : ((eqb i j && eqb l l') && eqb n n') ≡ false → ((os : List Order) → In (Back i l n os) ws → ⊥) → (os : List Order) → In (Back i l n os) (Back j l' n' ps ∷ ws) → ⊥
+    neither e f os (inl p) = let a : i ≡ j = cc in let b : l ≡ l' = cc in let c : n ≡ n' = cc in true≢false (sym (and_from _ _ (and_from _ _ (eq-eqb i j a) (eq-eqb l l' b)) (eq-eqb n n' c)) ∙ e)
+    neither e f os (inr k) = f os k
+
+    pick : (((eqb i j && eqb l l') && eqb n n') ≡ true) ⊎ (((eqb i j && eqb l l') && eqb n n') ≡ false) → ((os : List Order) × In (Back i l n os) ws) ⊎ ((os : List Order) → In (Back i l n os) ws → ⊥) → Z
+    pick (inl e) r = let p = and_parts (eqb i j && eqb l l') (eqb n n') e in let q = and_parts (eqb i j) (eqb l l') p.0 in let a = eqb-true i j q.0 in let b = eqb-true l l' q.1 in let c = eqb-true n n' p.1 in inl (ps, inl (λ k. Back (a k) (b k) (c k) ps))
+    pick (inr e) (inl (os, k)) = inl (os, inr k)
+    pick (inr e) (inr f) = inr (neither e f)
+
+-- as Near, but for what is ordered
+pub record By (i : ℕ) (w v : World) : Type 0 where
+  pub herd : v.herd ≡ w.herd
+  pub life : (v.agent i).life ≡ (w.agent i).life
+  pub number : (v.agent i).number ≡ (w.agent i).number
+  pub others : (j : ℕ) → eqb j i ≡ false → v.agent j ≡ w.agent j
+
+heed_it : (w : World) (i : ℕ) → Reach w → (v : World) × Course Anyhow [] w v × By i w v × Obeyed v i
+heed_it w i r = pick (find_back i (w.agent i).life (w.agent i).number w.sent)
+  where
+    pick : ((os : List Order) × In (Back i (w.agent i).life (w.agent i).number os) w.sent) ⊎ ((os : List Order) → In (Back i (w.agent i).life (w.agent i).number os) w.sent → ⊥) → (v : World) × Course Anyhow [] w v × By i w v × Obeyed v i
+    pick (inr f) = (w, Course.stop w, record { herd = refl; life = refl; number = refl; others = λ j e. refl }, λ os k. absurd (f os (in_from k)))
+    pick (inl (os, k)) =
+        let at = put_at i (obeys os (w.agent i)) w.agent in
+        let v : World = record { herd = w.herd; agent = put i (obeys os (w.agent i)) w.agent; sent = w.sent } in (
+          v,
+          Course.go (Calm.heeds w i os (in_to _ w.sent k)) tt (Course.stop v),
+          record { herd = refl; life = ap (λ (a : Agent). a.life) at; number = ap (λ (a : Agent). a.number) at; others = λ j e. put_off i j (obeys os (w.agent i)) w.agent e },
+          subst (λ (b : Agent). (ps : List Order) → Memᴰ (Back i b.life b.number ps) w.sent → b.ordered ≡ ps) (sym at) (λ ps q. one_reach r i os ps k (in_from q)),
+        )
+
+-- ONE MACHINE'S PART
+
+runs_then : {P : State → Type 0} {ks ls : List ℕ} {w u v : World} → Course P ks w u → Course P ls u v → Course P (ks ++ ls) w v
+runs_then (Course.stop w) q = q
+runs_then {P} {ls = ms} {v = v} (Course.go {ks = ks} {ls = ls} {w = w} c p rest) q = subst (λ (zs : List ℕ). Course P zs w v) (sym (append_assoc ks ls ms)) (Course.go c p (runs_then rest q))
+
+pub record After (w v : World) : Type 0 where
+  pub now : v.herd.now ≡ w.herd.now
+  pub on : (x : Machine) → In x w.herd.machines → (y : Machine) × In y v.herd.machines × (y.num ≡ x.num)
+  pub life : (j : ℕ) → (v.agent j).life ≡ (w.agent j).life
+  pub number : (j : ℕ) → (v.agent j).number ≤ suc (w.agent j).number
+
+abbrev NumSame : Machine → Machine → Type 0
+NumSame x y = y.num ≡ x.num
+
+heard_after : (i l n : ℕ) (xs : List Seen) (s : State) (k : ℕ) (os : List Order) → (does (Report i l n xs) s).reply ≡ Run k os → let u = (does (Report i l n xs) s).state in (u.now ≡ s.now) × ((x : Machine) → In x s.machines → (y : Machine) × In y u.machines × (y.num ≡ x.num))
+heard_after i l n xs s k os e = hears_is (λ (k' : ℕ) (os' : List Order) (u : State). (u.now ≡ s.now) × ((x : Machine) → In x s.machines → (y : Machine) × In y u.machines × (y.num ≡ x.num))) i l n xs s (λ m ms f g. ((unplaced_alike (heard i l n xs s)).0, to)) k os e
+  where
+    to : (x : Machine) → In x s.machines → (y : Machine) × In y (settle (heard i l n xs s)).machines × (y.num ≡ x.num)
+    to x j = pick (pass_to (λ z. ⊥) NumSame (pass_change (λ z. ⊥) NumSame (is_machine i) (heard_from l n s.now) s.machines (λ z q. refl) (λ z q d. refl)) x j)
+      where
+        pick : ((y : Machine) × In y (heard i l n xs s).machines × NumSame x y) ⊎ ⊥ → (y : Machine) × In y (settle (heard i l n xs s)).machines × (y.num ≡ x.num)
+        pick (inl (y, q, r)) = (y, subst (λ (ms : List Machine). In y ms) (sym (unplaced_alike (heard i l n xs s)).1) q, r)
+        pick (inr z) = absurd z
+
+-- what is ready is reported, heard and answered
+send_hear : (c : World) (i : ℕ) (m : Machine) → m.num ≡ i → Reach c → Memᴰ m c.herd.machines → 0 < c.herd.now → 0 < (c.agent i).life → (c.agent i).life ≤ 4611686018427387904 → (c.agent i).number < 4611686018427387904 → Obeyed c i → ((x : Seen) → In x (said_by (c.agent i)) → x.ready ≡ true) → (v : World) × Course Anyhow (i ∷ []) c v × After c v
+send_hear c i m mi r mm t l lo no' ob rd = (e, Course.go (Calm.sends c i l ob) tt (Course.go {ls = []} (Calm.hears d i xs os mem (λ x k. rd x (in_from k)) reply) tt (Course.stop e)), after)
+  where
+    a : Agent
+    a = c.agent i
+
+    xs : List Seen
+    xs = said_by a
+
+    d : World
+    d = record { herd = c.herd; agent = put i (reported a) c.agent; sent = Up i a.life (a.number + 1) xs ∷ c.sent }
+
+    at : d.agent i ≡ reported a
+    at = put_at i (reported a) c.agent
+
+    answer : (os : List Order) × ((does (next_report c i) c.herd).reply ≡ Run (a.number + 1) os)
+    answer = subst (λ (k : ℕ). (c.agent k).life ≤ 4611686018427387904 → (c.agent k).number < 4611686018427387904 → (os : List Order) × ((does (next_report c k) c.herd).reply ≡ Run ((c.agent k).number + 1) os)) mi (λ p q. is_answered c m r mm t p q) lo no'
+
+    os : List Order
+    os = answer.0
+
+    mem : Memᴰ (Up i (d.agent i).life (d.agent i).number xs) d.sent
+    mem = subst (λ (b : Agent). Memᴰ (Up i b.life b.number xs) d.sent) (sym at) (Memᴰ.head refl)
+
+    reply : (does (Report i (d.agent i).life (d.agent i).number xs) d.herd).reply ≡ Run (d.agent i).number os
+    reply = subst (λ (b : Agent). (does (Report i b.life b.number xs) c.herd).reply ≡ Run b.number os) (sym at) answer.1
+
+    e : World
+    e = record { herd = (does (Report i (d.agent i).life (d.agent i).number xs) d.herd).state; agent = d.agent; sent = Back i (d.agent i).life (d.agent i).number os ∷ d.sent }
+
+    after : After c e
+    after =
+        let h = heard_after i (d.agent i).life (d.agent i).number xs c.herd _ os reply in
+        record { now = h.0; on = h.1; life = put_is (λ (j : ℕ) (b : Agent). b.life ≡ (c.agent j).life) i (reported a) c.agent refl (λ j q. refl); number = put_is (λ (j : ℕ) (b : Agent). b.number ≤ suc (c.agent j).number) i (reported a) c.agent (omega arith) (λ j q. omega arith) }
+
+obeyed_near : {i : ℕ} {w v : World} → Near i w v → Obeyed w i → Obeyed v i
+obeyed_near {i} {w} {v} n o os k =
+    n.ordered ∙ o os (subst (λ (ws : List Word). Memᴰ (Back i (w.agent i).life (w.agent i).number os) ws) n.sent (subst (λ (x : ℕ). Memᴰ (Back i (w.agent i).life x os) v.sent) n.number (subst (λ (x : ℕ). Memᴰ (Back i x (v.agent i).number os) v.sent) n.life k)))
+
+visit_made : (w : World) (i : ℕ) (m : Machine) → m.num ≡ i → Reach w → Memᴰ m w.herd.machines → 0 < w.herd.now → 0 < (w.agent i).life → (w.agent i).life ≤ 4611686018427387904 → (w.agent i).number < 4611686018427387904 → (v : World) × Course Anyhow (i ∷ []) w v × After w v
+visit_made w i m mi r mm t l lo no' = (z.0, runs_then way z.1, after)
+  where
+    A : (v : World) × Course Anyhow [] w v × By i w v × Obeyed v i
+    A = heed_it w i r
+
+    B : Started i (A.0.agent i).ordered A.0
+    B = start_all i (A.0.agent i).ordered A.0 (λ o j. j)
+
+    C : Readied i B.0
+    C = ready_all i (B.0.agent i).runs [] B.0 refl (λ x j. absurd j)
+
+    c : World
+    c = C.0
+
+    n : Near i A.0 c
+    n = near_then B.2 C.2
+
+    way : Course Anyhow [] w c
+    way = runs_then A.1 (runs_then B.1 C.1)
+
+    herd : c.herd ≡ w.herd
+    herd = n.herd ∙ A.2.herd
+
+    life : (c.agent i).life ≡ (w.agent i).life
+    life = n.life ∙ A.2.life
+
+    number : (c.agent i).number ≡ (w.agent i).number
+    number = n.number ∙ A.2.number
+
+    ready : (o : Order) → In o (c.agent i).ordered → is_ready_in o.id (c.agent i).runs ≡ true
+    ready o j =
+        let s = C.3 o.id (B.4 o (subst (λ (os : List Order). In o os) n.ordered j)) in let q = some_at (is_seen o.id) (c.agent i).runs s in
+        some_from (λ (x : Seen). eqb o.id x.id && x.ready) (c.agent i).runs q.0 q.1 (and_from _ _ q.2 (C.4 q.0 q.1))
+
+    z : (v : World) × Course Anyhow (i ∷ []) c v × After c v
+    z = send_hear c i m mi (run_reach r way) (subst (λ (s : State). Memᴰ m s.machines) (sym herd) mm) (subst (λ (s : State). 0 < s.now) (sym herd) t) (subst (λ (k : ℕ). 0 < k) (sym life) l) (subst (λ (k : ℕ). k ≤ 4611686018427387904) (sym life) lo) (subst (λ (k : ℕ). k < 4611686018427387904) (sym number) no') (obeyed_near n A.3) (says_ready (c.agent i).runs (c.agent i).ordered ready)
+
+    others : (j : ℕ) → eqb j i ≡ false → c.agent j ≡ w.agent j
+    others j e = n.others j e ∙ A.2.others j e
+
+    both : (P : ℕ → Type 0) → P i → ((j : ℕ) → eqb j i ≡ false → P j) → (j : ℕ) → P j
+    both P p q j = elim (bool (eqb j i)) [ inl e ↦ subst P (sym (eqb-true j i e)) p | inr e ↦ q j e ]
+
+    after : After w z.0
+    after =
+        record {
+          now = z.2.now ∙ ap (λ (s : State). s.now) herd;
+          on = λ x j. z.2.on x (subst (λ (s : State). In x s.machines) (sym herd) j);
+          life = λ j. z.2.life j ∙ both (λ (k : ℕ). (c.agent k).life ≡ (w.agent k).life) life (λ k e. ap (λ (a : Agent). a.life) (others k e)) j;
+          number = λ j. subst (λ (k : ℕ). (z.0.agent j).number ≤ suc k) (both (λ (k : ℕ). (c.agent k).number ≡ (w.agent k).number) number (λ k e. ap (λ (a : Agent). a.number) (others k e)) j) (z.2.number j);
+        }
+
+-- ALL MACHINES, ONE AFTER THE OTHER
+
+abbrev Able : World → ℕ → ℕ → Type 0
+Able w k i = (0 < (w.agent i).life) × ((w.agent i).life ≤ 4611686018427387904) × ((w.agent i).number + k ≤ 4611686018427387904)
+
+all_made : (ms : List Machine) (w : World) → Reach w → 0 < w.herd.now → ((x : Machine) → In x ms → (y : Machine) × In y w.herd.machines × (y.num ≡ x.num)) → ((x : Machine) → In x ms → Able w (length ms) x.num) → (v : World) × (ks : List ℕ) × Course Anyhow ks w v × ((x : Machine) → In x ms → In x.num ks)
+all_made [] w r t h a = (w, [], Course.stop w, λ x j. absurd j)
+all_made (m ∷ ms) w r t h a = join (all_made ms v (run_reach r z.1) (subst (λ (k : ℕ). 0 < k) (sym z.2.now) t) there able)
+  where
+    y : (x : Machine) × In x w.herd.machines × (x.num ≡ m.num)
+    y = h m (inl refl)
+
+    a₀ : Able w (suc (length ms)) m.num
+    a₀ = a m (inl refl)
+
+    z : (v : World) × Course Anyhow (m.num ∷ []) w v × After w v
+    z = visit_made w m.num y.0 y.2 r (in_to y.0 w.herd.machines y.1) t a₀.0 a₀.1 (let b : (w.agent m.num).number + suc (length ms) ≤ 4611686018427387904 = a₀.2 in omega arith)
+
+    v : World
+    v = z.0
+
+    there : (x : Machine) → In x ms → (q : Machine) × In q v.herd.machines × (q.num ≡ x.num)
+    there x j = let p = h x (inr j) in let q = z.2.on p.0 p.1 in (q.0, q.1, q.2 ∙ p.2)
+
+    able : (x : Machine) → In x ms → Able v (length ms) x.num
+    able x j =
+        let p = a x (inr j) in let b : (w.agent x.num).number + suc (length ms) ≤ 4611686018427387904 = p.2 in let c : (v.agent x.num).number ≤ suc (w.agent x.num).number = z.2.number x.num in
+        (subst (λ (k : ℕ). 0 < k) (sym (z.2.life x.num)) p.0, subst (λ (k : ℕ). k ≤ 4611686018427387904) (sym (z.2.life x.num)) p.1, omega arith)
+
+    join : (u : World) × (ks : List ℕ) × Course Anyhow ks v u × ((x : Machine) → In x ms → In x.num ks) → (u : World) × (ks : List ℕ) × Course Anyhow ks w u × ((x : Machine) → In x (m ∷ ms) → In x.num ks)
+    join (u, ks, rs, c) = (u, m.num ∷ ks, runs_then z.1 rs, cover)
+      where
+        cover : (x : Machine) → In x (m ∷ ms) → In x.num (m.num ∷ ks)
+        cover x (inl e) = inl (ap (λ (q : Machine). q.num) e)
+        cover x (inr j) = inr (c x j)
+
+pub round_can_be : RoundCanBe
+round_can_be w r t h =
+    let z = all_made w.herd.machines w r t (λ x j. (x, j, refl)) (λ x j. h x (in_to x w.herd.machines j)) in
+    (z.0, (z.1, z.2, λ m j. in_to m.num z.1 (z.3 m (in_from j))))

@@ -1,0 +1,33 @@
+// The herd comes to rest: where nothing is asked any more and all works, all is as wanted
+// after a number of rounds that is known beforehand.
+//
+// The definitions stand in specs/. Each function here has a theorem about them for its contract,
+// said in plain words above it; the function itself does nothing.
+#![tactic(auto)]
+
+ghost use Rattle.rest.specs.Rest.{ComesToRest, IsAnswered, RoundCanBe};
+
+// If no call comes but reports and times, agents and the herd stay up, each machine reports at least
+// every 30,000 ms of told time, and what is ordered is ready when its machine reports,
+// then after so many rounds each job has exactly its count of the present version, all ready,
+// nothing else is there, and no task changes from then on: from any world that can be reached,
+// whatever happened before.
+pub fn comes_to_rest() -> u8
+    ensures { ComesToRest }
+{
+    0
+}
+
+// The next report of a machine that the herd has is answered, as long as numbers are left.
+pub fn is_answered() -> u8
+    ensures { IsAnswered }
+{
+    0
+}
+
+// Where all agents are up and numbers are left a round can be made.
+pub fn round_can_be() -> u8
+    ensures { RoundCanBe }
+{
+    0
+}
