@@ -17,7 +17,8 @@ use Rattle.model.proofs.Acts.{HeardAs, heard_pass, fine_heard}
 use Rattle.model.proofs.Hold.{Housed, once_machine}
 use Rattle.model.proofs.Keeps.{heard_firm, on_machine_lem}
 use Rattle.rest.proofs.Steps.{to_end_none, kept_none}
-use Rattle.rest.proofs.Falls.{to_do_le, not_new, waiting_alive, ready_alive, Quiet}
+use Rattle.rest.proofs.Falls.{waiting_alive, ready_alive, Quiet}
+use Rattle.rest.proofs.Lacks.{to_do_le, not_new}
 use Rattle.rest.proofs.Stuck.{Lawful}
 use Rattle.rest.proofs.Origins.{Origin, origins, ready_from, orders_has, Lost, Went}
 

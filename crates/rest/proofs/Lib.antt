@@ -1,4 +1,5 @@
 mod Steps
+mod Lacks
 mod Falls
 mod Stuck
 mod Origins
@@ -7,8 +8,11 @@ mod Knows
 mod Comes
 mod Quiets
 mod Rests
+mod Laws
 mod Orderlies
 mod Answered
+mod Whole
 mod Begins
 mod Lines
+mod Alone
 mod Made
