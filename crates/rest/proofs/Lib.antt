@@ -16,3 +16,4 @@ mod Begins
 mod Lines
 mod Alone
 mod Made
+mod Listed

@@ -78,12 +78,12 @@ fits_reach (Reach.then r s) = fits_step (inv_reach r) (fits_reach r) s
 
 -- WHAT WILL BE ORDERED
 
-unfoldable answer_to : ℕ → ℕ → ℕ → List Word → List Order → List Order
+unfoldable pub answer_to : ℕ → ℕ → ℕ → List Word → List Order → List Order
 answer_to i l n [] d = d
 answer_to i l n (Up j l' n' xs ∷ ws) d = answer_to i l n ws d
 answer_to i l n (Back j l' n' os ∷ ws) d = cond ((eqb i j && eqb l l') && eqb n n') os (answer_to i l n ws d)
 
-answer_all : (i l n : ℕ) (ws : List Word) (d : List Order) → ((os : List Order) → In (Back i l n os) ws → d ≡ os) → answer_to i l n ws d ≡ d
+pub answer_all : (i l n : ℕ) (ws : List Word) (d : List Order) → ((os : List Order) → In (Back i l n os) ws → d ≡ os) → answer_to i l n ws d ≡ d
 unfolding answer_to
 answer_all i l n [] d h = refl
 answer_all i l n (Up j l' n' xs ∷ ws) d h = answer_all i l n ws d (λ os k. h os (inr k))
@@ -116,10 +116,10 @@ answer_some i l n os (Back j l' n' ps ∷ ws) d d' (inl p) =
     ap (λ (z : Bool). cond z ps (answer_to i l n ws d)) t ∙ sym (ap (λ (z : Bool). cond z ps (answer_to i l n ws d')) t)
 answer_some i l n os (Back j l' n' ps ∷ ws) d d' (inr k) = ap (cond ((eqb i j && eqb l l') && eqb n n') ps) (answer_some i l n os ws d d' k)
 
-abbrev effect : List Word → ℕ → Agent → List Order
+abbrev pub effect : List Word → ℕ → Agent → List Order
 effect ws i a = answer_to i a.life a.number ws a.ordered
 
-abbrev scene : World → Scene
+abbrev pub scene : World → Scene
 scene w = record { herd = w.herd; life = λ i. (w.agent i).life; ordered = λ i. effect w.sent i (w.agent i) }
 
 -- STEPS
@@ -219,7 +219,7 @@ moves r (Calm.starts w i o m n) s = stays (changed w i (running _ (w.agent i)) w
 moves r (Calm.becomes w i before behind x b e) s = stays (changed w i (running _ (w.agent i)) w.sent refl refl (λ j d. refl)) s
 moves r (Calm.dies w i before behind x e) s = stays (changed w i (running _ (w.agent i)) w.sent refl refl (λ j d. refl)) s
 
-runs : {P : State → Type 0} {ks : List ℕ} {w v : World} → Reach w → Course P ks w v → Moves P ks (scene w) (scene v)
+pub runs : {P : State → Type 0} {ks : List ℕ} {w v : World} → Reach w → Course P ks w v → Moves P ks (scene w) (scene v)
 runs r (Course.stop w) = stop (scene w)
 runs r (Course.go c p rest) = let q = calm_reach r c in go (moves r c (inv_reach q).sound) p (runs q rest)
 

@@ -5,6 +5,7 @@
 // said in plain words above it; the function itself does nothing.
 #![tactic(auto)]
 
+ghost use Rattle.rest.specs.Listed.{RunsAsListed};
 ghost use Rattle.rest.specs.Rest.{ComesToRest, IsAnswered, RoundCanBe};
 
 // If no call comes but reports and times, agents and the herd stay up, each machine reports at least
@@ -14,6 +15,14 @@ ghost use Rattle.rest.specs.Rest.{ComesToRest, IsAnswered, RoundCanBe};
 // whatever happened before.
 pub fn comes_to_rest() -> u8
     ensures { ComesToRest }
+{
+    0
+}
+
+// At rest, after one more round, there runs on each machine exactly what the herd lists there,
+// all of it ready, whenever its agent has obeyed its answer and what is ordered is ready.
+pub fn runs_as_listed() -> u8
+    ensures { RunsAsListed }
 {
     0
 }
