@@ -17,3 +17,5 @@ mod Lines
 mod Alone
 mod Made
 mod Listed
+mod Play
+mod Example

@@ -1,3 +1,4 @@
 pub mod Rounds
 pub mod Rest
 pub mod Listed
+pub mod Example
