@@ -69,7 +69,7 @@ whole_move {w = w} {v = v} f (tick ts snd) =
     p = unsured ts.time w.herd.machines w.herd.tasks
 whole_move {w = w} {v = v} f (stays ss snd) = subst (λ (s : State). whole_in s ≤ whole_in w.herd) (sym ss.herd) (le_refl _)
 
-jobs_move : {ks : List ℕ} {w v : Scene} → Move ks w v → v.herd.jobs ≡ w.herd.jobs
+pub jobs_move : {ks : List ℕ} {w v : Scene} → Move ks w v → v.herd.jobs ≡ w.herd.jobs
 jobs_move {w = w} {v = v} (visit i vs snd) = ap (λ (s : State). s.jobs) vs.herd ∙ (unplaced_alike (told w v i vs)).2
 jobs_move {w = w} (tick ts snd) = ap (λ (s : State). s.jobs) ts.herd ∙ (unplaced_alike (timed ts.time w.herd)).2
 jobs_move (stays ss snd) = ap (λ (s : State). s.jobs) ss.herd
@@ -122,7 +122,7 @@ first_round w u r s (ks, ra, ca) = (record { sound = b.sound; steady = b.steady;
 
 -- IT COMES TO REST, AND STAYS SO
 
-jobs_run : {P : State → Type 0} {ks : List ℕ} {w v : Scene} → Moves P ks w v → v.herd.jobs ≡ w.herd.jobs
+pub jobs_run : {P : State → Type 0} {ks : List ℕ} {w v : Scene} → Moves P ks w v → v.herd.jobs ≡ w.herd.jobs
 jobs_run (stop w) = refl
 jobs_run (go c r rest) = jobs_run rest ∙ jobs_move c
 

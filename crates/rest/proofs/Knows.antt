@@ -28,7 +28,7 @@ pub record Known (s : State) (l : ℕ) (os : List Order) (i : ℕ) : Type 0 wher
   pub here : (m : Machine) → In m s.machines → m.num ≡ i → present s.now m ≡ true
   pub ready : (t : Task) → In t s.tasks → on_machine i t ≡ true → is_ready_lem t.phase ≡ true → some (is_order t.id) os ≡ true
 
-machines_in : (u : State) (m : Machine) → In m (settle u).machines → In m u.machines
+pub machines_in : (u : State) (m : Machine) → In m (settle u).machines → In m u.machines
 machines_in u m i = subst (λ (ms : List Machine). In m ms) (unplaced_alike u).1 i
 
 pub known_settle : (u : State) (l : ℕ) (os : List Order) (i : ℕ) → Tidy u → Known u l os i → Known (settle u) l os i
@@ -136,7 +136,7 @@ heard_alive : (b : Bool) → is_ending (cond b Ready Told) ≡ false
 heard_alive true = refl
 heard_alive false = refl
 
-went_alive : (k : ℕ) (xs : List Seen) (x y : Task) → Went k xs x y → is_alive y ≡ true → is_alive x ≡ true
+pub went_alive : (k : ℕ) (xs : List Seen) (x y : Task) → Went k xs x y → is_alive y ≡ true → is_alive x ≡ true
 went_alive k xs x y (inl h) q = sym (ap is_alive h.1) ∙ q
 went_alive k xs x y (inr (o, inl h)) q = sym (ap is_alive h.2) ∙ q
 went_alive k xs x y (inr (o, inr h)) q = ap not h.0
@@ -214,7 +214,7 @@ unsured_as x y (inr h) = let e = h.1 in (ap (λ (t : Task). t.job) e, ap (λ (t 
 abbrev pub NoWait : List Task → Type 0
 NoWait ts = (t : Task) → In t ts → is_waiting t.phase ≡ false
 
-takes_as : (now : ℕ) (a b : Task) (ts : List Task) (m : Machine) → a.spec ≡ b.spec → a.job ≡ b.job → takes now a ts m ≡ takes now b ts m
+pub takes_as : (now : ℕ) (a b : Task) (ts : List Task) (m : Machine) → a.spec ≡ b.spec → a.job ≡ b.job → takes now a ts m ≡ takes now b ts m
 takes_as now a b ts m p q = λ i. takes now (record { id = 0; job = q i; version = 0; spec = p i; phase = Waiting; machine = 0; life = 0 }) ts m
 
 pub no_wait : (u : State) → Fine u → Quiet u → Steady u → Roomy (settle u) → NoWait (settle u).tasks

@@ -19,3 +19,7 @@ mod Made
 mod Listed
 mod Play
 mod Example
+mod Own
+mod Bounds
+mod OwnPass
+mod OwnMoves

@@ -53,7 +53,7 @@ orders_exact s i h t j o = pick (is_ending t.phase) refl
     pick true e = elim (bool (some (is_order t.id) os)) [ inl p ↦ absurd (other e p) | inr p ↦ p ∙ sym (ap not e) ]
 
 -- after any report of machine i
-visit_exact : {w v : Scene} (i : ℕ) → Fine w.herd → Visits w v i → ExactIn v i
+pub visit_exact : {w v : Scene} (i : ℕ) → Fine w.herd → Visits w v i → ExactIn v i
 visit_exact {w} {v} i f vs =
     subst (λ (s : State). Exactly s.tasks (v.ordered i) i) (sym vs.herd) (subst (λ (os : List Order). Exactly (settle (told w v i vs)).tasks os i) (sym vs.ordered) (orders_exact (settle (told w v i vs)) i (tidy_settle (told w v i vs) (fine_heard i (w.life i) vs.number vs.said w.herd f).tidy)))
 
@@ -105,7 +105,7 @@ exact_still {w = w} {v = v} g n (tick_s ts q) i (inl h) = λ t j m. ap (some (is
 exact_still g n (stays_s ss) i (inr h) = absurd h
 exact_still g n (stays_s ss) i (inl h) = λ t j m. ap (some (is_order t.id)) (ss.ordered i) ∙ h t (subst (λ (s : State). In t s.tasks) ss.herd j) m
 
-ready_is : is_ready_lem Ready ≡ true
+pub ready_is : is_ready_lem Ready ≡ true
 ready_is = refl
 
 ready_still : {ks : List ℕ} {w v : Scene} → Going w → NoWait w.herd.tasks → Still ks w v → (i : ℕ) → ExactIn w i → ReadyIn w i ⊎ In i ks → ReadyIn v i

@@ -71,11 +71,11 @@ module _ (s : State) (one : OneName s.jobs) (r : Resting s) where
 
 -- SUMS OVER JOBS
 
-unfoldable sum_mine : List Job → List Task → ℕ
+unfoldable pub sum_mine : List Job → List Task → ℕ
 sum_mine [] ts = 0
 sum_mine (j ∷ js) ts = length (mine j ts) + sum_mine js ts
 
-sum_cons : (js : List Job) (t : Task) (ts : List Task) → (sum_mine js ts ≤ sum_mine js (t ∷ ts)) × (some (λ (j : Job). same j.name t.job) js ≡ true → sum_mine js ts < sum_mine js (t ∷ ts))
+pub sum_cons : (js : List Job) (t : Task) (ts : List Task) → (sum_mine js ts ≤ sum_mine js (t ∷ ts)) × (some (λ (j : Job). same j.name t.job) js ≡ true → sum_mine js ts < sum_mine js (t ∷ ts))
 unfolding sum_mine some
 sum_cons [] t ts = (omega arith, λ e. absurd (false≢true e))
 sum_cons (j ∷ js) t ts = pick (same j.name t.job) refl (count_cons (of_job j.name) t ts) (sum_cons js t ts)
@@ -104,7 +104,7 @@ sum_lt (k ∷ js) ts h j (inr i) l = let a : length (mine k ts) ≤ k.most = h k
 
 -- WHERE NOTHING IS DONE IT IS AT REST
 
-split : {A : Type 0} (f : A → Bool) (xs : List A) → length xs ≡ length (keep f xs) + length (keep (λ (x : A). not (f x)) xs)
+pub split : {A : Type 0} (f : A → Bool) (xs : List A) → length xs ≡ length (keep f xs) + length (keep (λ (x : A). not (f x)) xs)
 unfolding keep
 split f [] = omega arith
 split {A} f (x ∷ xs) = pick (f x) refl (split f xs)
@@ -116,7 +116,7 @@ split {A} f (x ∷ xs) = pick (f x) refl (split f xs)
     pick true e h = rw (keep_yes f x xs e, keep_no g x xs (ap not e)) (omega arith)
     pick false e h = rw (keep_no f x xs e, keep_yes g x xs (ap not e)) (omega arith)
 
-no_length : {A : Type 0} (xs : List A) → length xs ≤ 0 → xs ≡ []
+pub no_length : {A : Type 0} (xs : List A) → length xs ≤ 0 → xs ≡ []
 no_length [] h = refl
 no_length (x ∷ xs) h = absurd (omega arith)
 

@@ -2,3 +2,4 @@ pub mod Rounds
 pub mod Rest
 pub mod Listed
 pub mod Example
+pub mod Sooner
