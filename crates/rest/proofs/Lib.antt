@@ -23,3 +23,4 @@ mod Own
 mod Bounds
 mod OwnPass
 mod OwnMoves
+mod OwnQuiet
