@@ -24,3 +24,4 @@ mod Bounds
 mod OwnPass
 mod OwnMoves
 mod OwnQuiet
+mod OwnRest

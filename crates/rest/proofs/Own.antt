@@ -50,7 +50,7 @@ whole_of j ts = owns j ts + lacks j ts
 pub owns_mine : (j : Job) (ts : List Task) → length (alive (mine j ts)) ≡ owns j ts
 owns_mine j ts = ap length (keep_keep is_alive (of_job j.name) ts)
 
-news_mine : (j : Job) (ts : List Task) → length (new_ones j (alive (mine j ts))) ≡ news j ts
+pub news_mine : (j : Job) (ts : List Task) → length (new_ones j (alive (mine j ts))) ≡ news j ts
 news_mine j ts = ap length (ap (keep (λ (t : Task). eqb t.version j.version)) (keep_keep is_alive (of_job j.name) ts) ∙ keep_keep (λ (t : Task). eqb t.version j.version) (λ (t : Task). of_job j.name t && is_alive t) ts)
 
 -- it depends on the job's tasks alone

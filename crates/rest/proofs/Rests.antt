@@ -50,7 +50,7 @@ pass_refl D R (gone {x = x} h p) d r = absurd (d x (inl refl) h)
 pass_refl D R (goes {x = x} {y = y} {xs = xs} {ys = ys} h p) d r =
     let a : y ≡ x = r x y (inl refl) h in let b : ys ≡ xs = pass_refl D R p (λ z i. d z (inr i)) (λ z v i. r z v (inr i)) in cc
 
-ready_ready : (t : Task) → is_ready_lem t.phase ≡ true → phased Ready t ≡ t
+pub ready_ready : (t : Task) → is_ready_lem t.phase ≡ true → phased Ready t ≡ t
 ready_ready t e = pick t.phase refl e
   where
     pick : (p : Phase) → t.phase ≡ p → is_ready_lem p ≡ true → phased Ready t ≡ t
