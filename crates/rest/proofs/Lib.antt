@@ -25,3 +25,4 @@ mod OwnPass
 mod OwnMoves
 mod OwnQuiet
 mod OwnRest
+mod Strays
