@@ -26,3 +26,4 @@ mod OwnMoves
 mod OwnQuiet
 mod OwnRest
 mod Strays
+mod Sooner

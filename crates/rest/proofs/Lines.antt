@@ -227,11 +227,11 @@ pub run_reach : {P : State → Type 0} {ks : List ℕ} {w v : World} → Reach w
 run_reach r (Course.stop w) = r
 run_reach r (Course.go c p rest) = run_reach (calm_reach r c) rest
 
-rounds : {P : State → Type 0} {n : ℕ} {w v : World} → Reach w → Rounds P n w v → Turns P n (scene w) (scene v)
+pub rounds : {P : State → Type 0} {n : ℕ} {w v : World} → Reach w → Rounds P n w v → Turns P n (scene w) (scene v)
 rounds r (Rounds.none w) = Turns.none (scene w)
 rounds r (Rounds.more ro rest) = Turns.more (ro.0, runs r ro.1, ro.2) (rounds (run_reach r ro.1) rest)
 
-rounds_reach : {P : State → Type 0} {n : ℕ} {w v : World} → Reach w → Rounds P n w v → Reach v
+pub rounds_reach : {P : State → Type 0} {n : ℕ} {w v : World} → Reach w → Rounds P n w v → Reach v
 rounds_reach r (Rounds.none w) = r
 rounds_reach r (Rounds.more ro rest) = rounds_reach (run_reach r ro.1) rest
 

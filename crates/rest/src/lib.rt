@@ -8,6 +8,7 @@
 ghost use Rattle.rest.specs.Example.{RestIsMet};
 ghost use Rattle.rest.specs.Listed.{RunsAsListed};
 ghost use Rattle.rest.specs.Rest.{ComesToRest, IsAnswered, RoundCanBe};
+ghost use Rattle.rest.specs.Sooner.{ComesSooner};
 
 // If no call comes but reports and times, agents and the herd stay up, each machine reports at least
 // every 30,000 ms of told time, and what is ordered is ready when its machine reports,
@@ -16,6 +17,14 @@ ghost use Rattle.rest.specs.Rest.{ComesToRest, IsAnswered, RoundCanBe};
 // whatever happened before.
 pub fn comes_to_rest() -> u8
     ensures { ComesToRest }
+{
+    0
+}
+
+// As above, by fewer rounds: 3 and twice the largest, over jobs, of its tasks that aren't ending and its count,
+// where the limit of 2,048 tasks cannot bind.
+pub fn comes_sooner() -> u8
+    ensures { ComesSooner }
 {
     0
 }
