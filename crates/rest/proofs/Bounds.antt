@@ -1,14 +1,17 @@
 -- Where the limit of 2,048 tasks cannot bind at the beginning, it cannot bind later; and numbers only rise in a pass.
 -- Assumes nothing.
-use Rattle.std.proofs.Common.{◌≡◌, ℕ, suc, ◌+◌, ◌<◌, ◌≤◌, max, Bool, true, false, not, ◌&&◌, ltb, ◌⊎◌, List, [], ◌∷◌, ◌++◌, length, sym, refl, ap, ◌∙◌, subst, inl, inr, le_trans, le_refl, arith}
-use Rattle.std.proofs.lemmas.Bool.{and_parts, not-true, ltb-true}
+use Rattle.std.proofs.Common.{◌≡◌, suc, ◌+◌, ◌<◌, ◌≤◌, max, Bool, true, false, not, ◌&&◌, ltb, List, [], ◌∷◌, length, sym, refl, ap, ◌∙◌, subst, inl, inr, le_trans, le_refl, arith}
+use Rattle.std.proofs.lemmas.Bool.{and_parts, ltb-true}
 use Rattle.std.proofs.Math.Nat.{le-max_left, le-max_right}
-use Rattle.model.specs.State.{Machine, Job, Task, State, of_job, with_tasks}
-use Rattle.model.specs.Lists.{some, keep, same}
+use Rattle.model.specs.State.{Job, Task, State, of_job, with_tasks}
+use Rattle.model.specs.Lists.{some, same}
 use Rattle.model.specs.Settle.{mine, alive, new_ones, ended, fresh, for_job, for_jobs, orphans_end, unplaced, settle, may_grow_lem, more}
-use Rattle.rest.specs.Sooner.{widest, strays}
-use Rattle.model.proofs.Lists.{bool, In, keep_end, count_cons, bump, some_from, Pass, pass_down}
-use Rattle.model.proofs.Tasks.{same_refl, jobless, orphans_pass, ended_pass, MayEnd, step_is, steps_are, Put, Never}
+use Rattle.model.specs.Calls.{all_most}
+use Rattle.rest.specs.Sooner.{widest, strays, ApartWhereKept}
+use Rattle.rest.proofs.Steps.{keep_none}
+use Rattle.rest.proofs.Orderlies.{steady_reach}
+use Rattle.model.proofs.Lists.{in_from, in_to, In, keep_end, count_cons, bump, some_from, Pass, pass_down}
+use Rattle.model.proofs.Tasks.{same_refl, eq_same, jobless, orphans_pass, ended_pass, MayEnd, step_is, steps_are, Put, Never}
 use Rattle.model.proofs.Settles.{Tidy, tidy_pass, tidy_step, orphan_id, settle_pass, Fine}
 use Rattle.rest.proofs.Stuck.{OneName, sum_mine, sum_cons}
 use Rattle.rest.proofs.Own.{keep_off}
@@ -121,3 +124,19 @@ onward_step j s = step_is (Onward s) j s (λ xs m. (le_refl _, refl, refl)) (λ 
 
 pub onward_steps : (xs : List Job) (s : State) → Onward s (for_jobs xs s)
 onward_steps xs s = steps_are (Onward s) xs s (λ j i u p. let q = onward_step j u in (le_trans p.0 q.0, q.1 ∙ p.1, q.2 ∙ p.2)) (le_refl _, refl, refl)
+
+-- WHERE NO JOB HAS MORE THAN ITS MOST
+
+widest_kept : (js : List Job) (ts : List Task) → ((j : Job) → In j js → length (mine j ts) ≤ j.most) → widest js ts ≤ all_most js
+unfolding widest all_most
+widest_kept [] ts h = omega arith
+widest_kept (j ∷ js) ts h = let a : length (mine j ts) ≤ j.most = h j (inl refl) in let b : widest js ts ≤ all_most js = widest_kept js ts (λ k i. h k (inr i)) in omega arith
+
+pub apart_where_kept : ApartWhereKept
+apart_where_kept w r h k =
+    let a : widest w.herd.jobs w.herd.tasks ≤ all_most w.herd.jobs = widest_kept w.herd.jobs w.herd.tasks (λ j i. h j (in_to j w.herd.jobs i)) in
+    let b : all_most w.herd.jobs ≤ 2048 = (steady_reach w r).mosts in
+    let c : strays w.herd.jobs w.herd.tasks ≡ 0 = ap length (keep_none (jobless w.herd.jobs) w.herd.tasks none) in omega arith
+  where
+    none : (t : Task) → In t w.herd.tasks → jobless w.herd.jobs t ≡ false
+    none t i = let q = k t (in_to t w.herd.tasks i) in ap not (some_from (λ (j : Job). same j.name t.job) w.herd.jobs q.0 (in_from q.1) (eq_same q.0.name t.job q.2))

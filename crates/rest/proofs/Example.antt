@@ -10,6 +10,7 @@ use Rattle.model.specs.Calls.{AddMachine, Tick, alike, all_most, sets_job, seen_
 use Rattle.model.specs.World.{start, may_run, Reach}
 use Rattle.rest.specs.Rounds.{Anyhow, Roomy, Round, Rounds}
 use Rattle.rest.specs.Rest.{wanted_of}
+use Rattle.rest.specs.Sooner.{largest, widest}
 use Rattle.rest.specs.Example.{told, came_up, turned, brought_up, order, set, at_first, after_one, after_two, after_three, after_four, after_five, RestIsMet}
 use Rattle.rest.proofs.Play.{answers, roomy, obeyed_one, say, up, turn, bring_up, cycle, starting, round_of}
 
@@ -46,12 +47,14 @@ unfolding some every keep find change none same last_of head_or cpu_of mem_of en
 fifth = round_of Roomy after_four after_five (cycle Roomy (order 2 2 ∷ []) after_four refl (obeyed_one after_four 1 refl) refl refl (roomy after_four.herd refl refl) (roomy after_five.herd refl refl)) refl
 
 pub rest_is_met : RestIsMet
-unfolding some every keep find change none same last_of head_or cpu_of mem_of ended for_jobs orphans_end best place place_all_lem alike all_most sets_job seen_as heard_of_lem heard_all orders reports unsure lines_of acts may_run wanted_of at_first after_one after_two after_three after_four after_five
+unfolding some every keep find change none same last_of head_or cpu_of mem_of ended for_jobs orphans_end best place place_all_lem alike all_most sets_job seen_as heard_of_lem heard_all orders reports unsure lines_of acts may_run wanted_of largest widest at_first after_one after_two after_three after_four after_five
 rest_is_met = (
   reached,
   (_, Memᴰ.head refl),
   first,
   Rounds.more second (Rounds.more third (Rounds.more fourth (Rounds.more fifth (Rounds.none after_five)))),
+  leb-true _ _ refl,
+  leb-true _ _ refl,
   leb-true _ _ refl,
   refl,
   refl,

@@ -1,15 +1,15 @@
 -- A job's own tasks: one step for it makes less what is left to do for it, and steps for other jobs leave its tasks as they are.
 -- Assumes nothing.
-use Rattle.std.proofs.Common.{◌≡◌, ℕ, suc, ◌+◌, ◌-◌, ◌*◌, ◌<◌, ◌≤◌, Bool, true, false, cond, not, ◌&&◌, ltb, eqb, ◌⊎◌, List, [], ◌∷◌, ◌++◌, length, sym, refl, ap, ◌∙◌, subst, inl, inr, le_trans, le_refl, arith}
+use Rattle.std.proofs.Common.{◌≡◌, ℕ, suc, ◌+◌, ◌*◌, ◌<◌, ◌≤◌, Bool, true, false, cond, not, ◌&&◌, ltb, eqb, ◌⊎◌, List, [], ◌∷◌, ◌++◌, length, sym, refl, ap, ◌∙◌, subst, inl, inr, le_trans, arith}
 use Rattle.std.proofs.lemmas.Bool.{and_parts, and_from, and_left, and_right, not-true, ltb-true, eqb-true, eq-eqb}
-use Rattle.model.specs.State.{Job, Ending, Task, State, is_waiting, is_ending, is_task, of_job, phased, with_tasks}
+use Rattle.model.specs.State.{Job, Ending, Task, State, is_waiting, is_task, of_job, phased, with_tasks}
 use Rattle.model.specs.Lists.{keep, change, same}
-use Rattle.model.specs.Settle.{mine, alive, new_ones, ended, fresh, for_job, for_jobs, may_grow_lem, more, old_to_end, new_to_end}
+use Rattle.model.specs.Settle.{mine, alive, new_ones, ended, fresh, for_job, may_grow_lem, more, old_to_end, new_to_end}
 use Rattle.rest.specs.Rest.{is_alive, is_new, missing}
 use Rattle.model.proofs.Lists.{clash, bool, In, in_keep, keep_yes, keep_no, keep_keep, keep_end, bump, Pass, done, gone, goes}
 use Rattle.model.proofs.Tasks.{same_refl, same_eq, eq_same, unsame_sym, Rising, rising_one, ended_pass, MayEnd, step_is}
 use Rattle.model.proofs.Settles.{Tidy}
-use Rattle.rest.proofs.Steps.{new_count, Idle, step_cases, idle_same, to_end_in}
+use Rattle.rest.proofs.Steps.{new_count, Idle, step_cases, to_end_in}
 use Rattle.rest.proofs.Lacks.{count_less, change_less, news, lacks, new_count_is, ended_others, ended_one, grown_parts}
 
 -- what passes a test goes on as it is, in a pass in which nothing that passes is gone or changed
@@ -153,5 +153,5 @@ other_step k j e s h = step_is (λ (u : State). mine j u.tasks ≡ mine j s.task
     ending [] m = refl
     ending (t ∷ ts) m =
         keep_pass _ _ (of_job j.name) (ended_pass 0 s.tasks h.0 t m.0 ts) (λ x i d. ap (of_job j.name) d.0 ∙ not_of k j t e m.1)
-            (λ x y i r. elim r [ inl p ↦ ap (of_job j.name) p | inr p ↦ ap (of_job j.name) p.1.1 ])
-            (λ x y i r q. elim r [ inl p ↦ p | inr p ↦ clash (of_job j.name x) q (ap (of_job j.name) p.0 ∙ not_of k j t e m.1) ])
+        (λ x y i r. elim r [ inl p ↦ ap (of_job j.name) p | inr p ↦ ap (of_job j.name) p.1.1 ])
+        (λ x y i r q. elim r [ inl p ↦ p | inr p ↦ clash (of_job j.name x) q (ap (of_job j.name) p.0 ∙ not_of k j t e m.1) ])

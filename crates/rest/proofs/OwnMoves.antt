@@ -1,32 +1,29 @@
 -- Moves, as one job sees them: what is left to do for it never grows, and where it isn't less the pass did nothing for it.
 -- Assumes nothing.
-use Rattle.std.proofs.Common.{◌≡◌, ℕ, suc, ◌+◌, ◌-◌, ◌*◌, ◌<◌, ◌≤◌, Bool, true, false, cond, not, ◌&&◌, eqb, ◌⊎◌, List, [], ◌∷◌, length, sym, refl, ap, ◌∙◌, subst, inl, inr, le_trans, le_refl, arith}
-use Rattle.std.proofs.lemmas.Bool.{true≢false, and_parts, and_from, or_left, eqb-true}
-use Rattle.model.specs.State.{Machine, Job, Told, Ready, Task, State, is_waiting, is_ready_lem, is_ending, of_job, phased}
-use Rattle.model.specs.Lists.{some, keep, same}
+use Rattle.std.proofs.Common.{◌≡◌, ℕ, ◌+◌, ◌<◌, ◌≤◌, Bool, true, false, not, ◌&&◌, eqb, ◌⊎◌, List, [], ◌∷◌, sym, ap, ◌∙◌, subst, inl, inr, le_trans, le_refl, arith}
+use Rattle.std.proofs.lemmas.Bool.{and_parts, and_from, or_left, eqb-true}
+use Rattle.model.specs.State.{Job, Task, State, is_waiting, is_ready_lem, of_job}
+use Rattle.model.specs.Lists.{same}
 use Rattle.model.specs.Settle.{mine, alive, old_ones, sure, takes, fresh, unplaced, settle}
-use Rattle.model.specs.Calls.{Seen, timed}
-use Rattle.model.specs.World.{is_seen}
+use Rattle.model.specs.Calls.{timed}
 use Rattle.rest.specs.Rounds.{Roomy}
 use Rattle.rest.specs.Rest.{is_alive, is_new}
 use Rattle.rest.specs.Sooner.{widest, strays}
 use Rattle.model.proofs.Lists.{to_true, from_true, clash, bool, In, in_from, in_to, in_keep, keep_in, Pass, pass_from, pass_up, pass_down}
-use Rattle.model.proofs.Tasks.{same_eq, waiting_not_ready, Put, Never, told_not_waiting}
+use Rattle.model.proofs.Tasks.{same_eq, waiting_not_ready, Put, Never}
 use Rattle.model.proofs.Settles.{unplaced_alike, settle_pass, Fine, fine_to}
 use Rattle.model.proofs.Room.{put_waiting, waits_for_room_lem}
 use Rattle.model.proofs.Acts.{fine_heard, fine_timed}
-use Rattle.model.proofs.Keeps.{Sound}
 use Rattle.rest.proofs.Steps.{to_end_none, kept_none}
-use Rattle.rest.proofs.Lacks.{news, lacks, not_new}
-use Rattle.rest.proofs.Falls.{waiting_alive, ready_alive}
-use Rattle.rest.proofs.Origins.{Lost, Went, hear_pass}
+use Rattle.rest.proofs.Lacks.{news, not_new}
+use Rattle.rest.proofs.Falls.{waiting_alive}
+use Rattle.rest.proofs.Origins.{Went, hear_pass}
 use Rattle.rest.proofs.Knows.{Unsured, unsured, unsured_as, unsured_new, lives, Ended, lost_ends, went_new, went_as, Steady, takes_as, machines_in}
 use Rattle.rest.proofs.Scenes.{Scene, told, Visits, Ticks, Sames, Move, visit, tick, stays}
 use Rattle.rest.proofs.Comes.{Going, one_of, visitor}
-use Rattle.rest.proofs.Begins.{jobs_move}
-use Rattle.rest.proofs.Own.{keep_pass, own, owns, left_of, whole_of}
+use Rattle.rest.proofs.Own.{keep_pass, own, owns, left_of}
 use Rattle.rest.proofs.Bounds.{Bounded, bounded_pass, bounded_settle}
-use Rattle.rest.proofs.OwnPass.{seen_at_by, StillAt, StillIn, QuietOf, Settled, own_settle}
+use Rattle.rest.proofs.OwnPass.{seen_at_by, QuietOf, Settled, own_settle}
 
 -- THE LIMIT DOESN'T BIND
 
@@ -151,5 +148,5 @@ nowait_of u f j ji q st r t i o = elim (bool (is_waiting t.phase)) [ inl w ↦ a
 pub same_of : (u : State) → Fine u → (j : Job) → mine j (unplaced u).tasks ≡ mine j u.tasks → NoWaitOf j u.tasks → mine j (settle u).tasks ≡ mine j u.tasks
 same_of u f j q n =
     keep_pass Never Put (of_job j.name) (settle_pass u f.tidy) (λ x i d. absurd d) (λ x y i r. elim r [ inl e ↦ ap (of_job j.name) e | inr e ↦ ap (of_job j.name) e.3 ])
-        (λ x y i r o. elim r [ inl e ↦ e | inr e ↦ clash (is_waiting x.phase) e.0 (n x (in_mine j u.tasks (unplaced u).tasks q x i o) o) ])
+    (λ x y i r o. elim r [ inl e ↦ e | inr e ↦ clash (is_waiting x.phase) e.0 (n x (in_mine j u.tasks (unplaced u).tasks q x i o) o) ])
     ∙ q

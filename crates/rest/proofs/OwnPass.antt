@@ -1,9 +1,9 @@
 -- What a whole pass does to one job's tasks: what is left to do for it is less, or nothing was done for it.
 -- Assumes nothing.
-use Rattle.std.proofs.Common.{◌≡◌, ℕ, ◌+◌, ◌-◌, ◌*◌, ◌<◌, ◌≤◌, Bool, true, false, not, ◌&&◌, ltb, ◌⊎◌, List, [], ◌∷◌, length, sym, refl, ap, ◌∙◌, subst, inl, inr, le_trans, le_refl, arith}
+use Rattle.std.proofs.Common.{◌≡◌, ℕ, ◌+◌, ◌<◌, ◌≤◌, Bool, true, false, ◌&&◌, ltb, ◌⊎◌, List, [], ◌∷◌, length, sym, refl, ap, ◌∙◌, subst, inl, inr, le_trans, arith}
 use Rattle.std.proofs.lemmas.Bool.{and_parts, and_from, not-true, ltb-true, lt-ltb}
-use Rattle.model.specs.State.{Machine, Job, Task, State, is_waiting, of_job, with_tasks}
-use Rattle.model.specs.Lists.{some, keep, same}
+use Rattle.model.specs.State.{Machine, Job, Task, State, of_job, with_tasks}
+use Rattle.model.specs.Lists.{some, same}
 use Rattle.model.specs.Settle.{mine, alive, new_ones, old_ones, to_end_lem, for_job, for_jobs, orphans_end, unplaced, settle, may_grow_lem}
 use Rattle.rest.specs.Rest.{is_alive, is_new}
 use Rattle.rest.specs.Sooner.{widest, strays}
@@ -12,7 +12,7 @@ use Rattle.model.proofs.Tasks.{same_refl, unsame_sym, jobless, orphans_pass, Put
 use Rattle.model.proofs.Settles.{Tidy, tidy_pass, tidy_step, orphan_id, settle_pass, Fine}
 use Rattle.rest.proofs.Stuck.{OneName}
 use Rattle.rest.proofs.Steps.{Idle}
-use Rattle.rest.proofs.Lacks.{news, lacks}
+use Rattle.rest.proofs.Lacks.{news}
 use Rattle.rest.proofs.Knows.{placed_new}
 use Rattle.rest.proofs.Comes.{one_of}
 use Rattle.rest.proofs.Own.{keep_pass, own, owns, left_of, whole_of, left_same, whole_same, Stepped, own_step, other_step}
@@ -29,7 +29,7 @@ abbrev pub StillAt : Job → ℕ → List Machine → List Task → Type 0
 StillAt j now ms xs =
     (to_end_lem (seen_at_by now ms) j xs (old_ones j (alive xs)) ≡ []) ×
     (((ltb j.count (length (new_ones j (alive xs))) ≡ true) × (to_end_lem (seen_at_by now ms) j xs (new_ones j (alive xs)) ≡ [])) ⊎
-     ((ltb j.count (length (new_ones j (alive xs))) ≡ false) × (ltb (length (new_ones j (alive xs))) j.count && ltb (length xs) j.most ≡ false)))
+    ((ltb j.count (length (new_ones j (alive xs))) ≡ false) × (ltb (length (new_ones j (alive xs))) j.count && ltb (length xs) j.most ≡ false)))
 
 abbrev pub StillIn : Job → State → Type 0
 StillIn j s = StillAt j s.now s.machines (mine j s.tasks)

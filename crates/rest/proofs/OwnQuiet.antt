@@ -1,19 +1,18 @@
 -- Two rounds in which what is left to do for a job doesn't fall leave all its tasks ready, and nothing to do for it.
 -- Assumes nothing.
-use Rattle.std.proofs.Common.{◌≡◌, ℕ, ◌+◌, ◌<◌, ◌≤◌, Bool, true, false, cond, not, ◌&&◌, ltb, eqb, ◌⊎◌, List, [], ◌∷◌, ◌++◌, length, sym, refl, ap, ◌∙◌, subst, inl, inr, le_trans, le_refl, arith}
-use mathlib.Core.List.{Memᴰ}
+use Rattle.std.proofs.Common.{◌≡◌, ℕ, ◌+◌, ◌<◌, ◌≤◌, Bool, true, false, cond, not, ltb, eqb, ◌⊎◌, List, [], ◌∷◌, ◌++◌, sym, refl, ap, ◌∙◌, subst, inl, inr, le_trans, le_refl, arith}
 use Rattle.std.proofs.lemmas.Bool.{and_from, ltb-true, ltb-false, eqb-true, eqb-false, eq-eqb}
-use Rattle.model.specs.State.{Machine, Job, Phase, Told, Ready, Task, State, is_waiting, is_ready_lem, of_job, on_machine, phased}
+use Rattle.model.specs.State.{Machine, Job, Told, Ready, Task, State, is_waiting, is_ready_lem, of_job, on_machine}
 use Rattle.model.specs.Lists.{some, same}
-use Rattle.model.specs.Settle.{mine, settle}
-use Rattle.model.specs.Calls.{Seen, Order, timed}
+use Rattle.model.specs.Settle.{mine}
+use Rattle.model.specs.Calls.{Seen, timed}
 use Rattle.model.specs.World.{is_order, is_seen}
 use Rattle.rest.specs.Rounds.{Roomy}
 use Rattle.rest.specs.Rest.{is_alive}
 use Rattle.rest.specs.Sooner.{widest, strays}
 use Rattle.model.proofs.Lists.{clash, bool, In, in_from, in_to, pass_from}
 use Rattle.model.proofs.Tasks.{Never, told_not_waiting}
-use Rattle.model.proofs.Settles.{unplaced_alike, Fine}
+use Rattle.model.proofs.Settles.{unplaced_alike}
 use Rattle.model.proofs.Acts.{fine_heard, fine_timed}
 use Rattle.rest.proofs.Origins.{Went, hear_pass}
 use Rattle.rest.proofs.Scenes.{Scene, told, Visits, Ticks, Move, Moves, stop, go, Turn}

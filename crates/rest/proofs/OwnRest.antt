@@ -1,33 +1,32 @@
 -- One job at rest: where nothing is to be done for it and all its tasks are ready; and that it stays so.
 -- Assumes nothing.
-use Rattle.std.proofs.Common.{◌≡◌, ℕ, zero, suc, ◌+◌, ◌-◌, ◌*◌, ◌<◌, ◌≤◌, Bool, true, false, cond, not, ◌&&◌, ltb, eqb, ◌⊎◌, List, [], ◌∷◌, length, sym, refl, ap, ◌∙◌, subst, inl, inr, le_trans, le_refl, arith}
+use Rattle.std.proofs.Common.{◌≡◌, ℕ, zero, suc, ◌+◌, ◌*◌, ◌<◌, ◌≤◌, Bool, true, false, cond, not, ◌&&◌, ltb, eqb, ◌⊎◌, List, [], length, sym, ap, ◌∙◌, subst, inl, inr, arith}
 use Rattle.std.proofs.lemmas.Bool.{true≢false, and_parts, and_from, not-false, ltb-true, ltb-false, lt-ltb}
-use Rattle.model.specs.State.{Machine, Job, Told, Ready, Task, State, is_waiting, is_ready_lem, is_ending, of_job, phased}
-use Rattle.model.specs.Lists.{some, keep, same}
+use Rattle.model.specs.State.{Machine, Job, Told, Ready, Task, State, is_waiting, is_ready_lem, of_job, phased}
+use Rattle.model.specs.Lists.{keep, same}
 use Rattle.model.specs.Settle.{mine, alive, new_ones, old_ones, ready_ones, to_end_lem, settle}
-use Rattle.model.specs.Calls.{Seen, timed}
+use Rattle.model.specs.Calls.{timed}
 use Rattle.rest.specs.Rounds.{Roomy}
 use Rattle.rest.specs.Rest.{is_alive, is_new}
 use Rattle.rest.specs.Sooner.{widest, strays}
-use Rattle.model.proofs.Lists.{clash, bool, In, in_keep, keep_in, bump, count_cons, Pass, done, gone, goes, pass_up, pass_down}
-use Rattle.model.proofs.Tasks.{waiting_not_ready, Never}
+use Rattle.model.proofs.Lists.{clash, bool, In, in_keep, keep_in}
+use Rattle.model.proofs.Tasks.{waiting_not_ready}
 use Rattle.model.proofs.Settles.{Fine}
 use Rattle.model.proofs.Acts.{fine_heard, fine_timed}
-use Rattle.model.proofs.Keeps.{Sound}
 use Rattle.rest.proofs.Steps.{to_end_none, keep_all, kept_none}
-use Rattle.rest.proofs.Lacks.{count_le, news, lacks}
+use Rattle.rest.proofs.Lacks.{count_le, news}
 use Rattle.rest.proofs.Falls.{ready_alive}
 use Rattle.rest.proofs.Stuck.{Lawful, split, no_length}
-use Rattle.rest.proofs.Origins.{Lost, Went, hear_pass}
-use Rattle.rest.proofs.Knows.{Unsured, unsured, unsured_as, unsured_new, lives, Ended, lost_ends, went_new, went_as}
-use Rattle.rest.proofs.Scenes.{Scene, told, Visits, Move, visit, tick, stays, sound_move, Moves, stop, go, Turn, Turns}
+use Rattle.rest.proofs.Origins.{Went, hear_pass}
+use Rattle.rest.proofs.Knows.{lives, Ended, lost_ends, went_as}
+use Rattle.rest.proofs.Scenes.{Scene, told, Visits, Move, visit, tick, stays, Moves, stop, go, Turns}
 use Rattle.rest.proofs.Comes.{KnownIn, Going, going_move, visitor}
 use Rattle.rest.proofs.Quiets.{tick_tasks, going_run, on_run}
 use Rattle.rest.proofs.Rests.{ready_ready}
-use Rattle.rest.proofs.Own.{keep_pass, own, owns, left_of, whole_of, owns_mine, news_mine}
-use Rattle.rest.proofs.OwnPass.{seen_at_by, StillAt, StillIn}
-use Rattle.rest.proofs.OwnMoves.{Fit, settle_at, fit_told, fit_timed, fit_move, As, own_as, same_of}
-use Rattle.rest.proofs.OwnQuiet.{FitIn, fit_run, two_rounds_of}
+use Rattle.rest.proofs.Own.{keep_pass, own, owns, left_of, owns_mine, news_mine}
+use Rattle.rest.proofs.OwnPass.{seen_at_by, StillIn}
+use Rattle.rest.proofs.OwnMoves.{Fit, settle_at, fit_told, fit_timed, fit_move, same_of}
+use Rattle.rest.proofs.OwnQuiet.{fit_run, two_rounds_of}
 
 pub record RestOf (j : Job) (s : State) : Type 0 where
   pub ready : (t : Task) → In t s.tasks → of_job j.name t ≡ true → is_ready_lem t.phase ≡ true
@@ -124,14 +123,14 @@ module _ (js : List Job) (at : List Task) (room : widest js at + strays js at �
   rest_pass : (u : State) → Fine u → Fit js at u → RestOf j u → mine j (settle u).tasks ≡ mine j u.tasks
   rest_pass u f h r =
       elim (settle_at js at room j ji u f h).falls [
-        inl l ↦ let a : left_of j u.tasks ≤ j.count = rest_left j u r in let b : j.count ≤ left_of j (settle u).tasks = low_of j (settle u).tasks in absurd (omega arith) |
-        inr q ↦ same_of u f j q.0 (λ t i o. elim (bool (is_waiting t.phase)) [ inl w ↦ clash (is_ready_lem t.phase) (r.ready t i o) (waiting_not_ready t.phase w) | inr w ↦ w ])
+        | inl l ↦ let a : left_of j u.tasks ≤ j.count = rest_left j u r in let b : j.count ≤ left_of j (settle u).tasks = low_of j (settle u).tasks in absurd (omega arith)
+        | inr q ↦ same_of u f j q.0 (λ t i o. elim (bool (is_waiting t.phase)) [ inl w ↦ clash (is_ready_lem t.phase) (r.ready t i o) (waiting_not_ready t.phase w) | inr w ↦ w ])
       ]
 
   heard_mine : {w v : Scene} (i : ℕ) → Going w → (vs : Visits w v i) → RestOf j w.herd → mine j (told w v i vs).tasks ≡ mine j w.herd.tasks
   heard_mine {w} {v} i g vs r =
       keep_pass Ended (Went i vs.said) (of_job j.name) (lost_ends i (w.life i) vs.said (hear_pass i (w.life i) vs.said vs.ready w.herd.tasks) (lives w.herd (w.life i) (w.ordered i) i g.sound.told k)) lost
-          (λ x y n h. ap (same j.name) (went_as i vs.said x y h).0) same_one
+      (λ x y n h. ap (same j.name) (went_as i vs.said x y h).0) same_one
     where
       k : KnownIn w i
       k = visitor i g vs

@@ -1,27 +1,25 @@
 -- The first round, as one job sees it; and so fewer rounds are enough where the limit of tasks cannot bind.
 -- Assumes nothing.
-use Rattle.std.proofs.Common.{◌≡◌, ℕ, zero, suc, ◌+◌, ◌-◌, ◌*◌, ◌<◌, ◌≤◌, max, Bool, true, false, not, ◌&&◌, eqb, ◌⊎◌, List, [], ◌∷◌, length, sym, refl, ap, ◌∙◌, subst, inl, inr, le_trans, le_refl, arith}
-use mathlib.Core.List.{Memᴰ}
+use Rattle.std.proofs.Common.{◌≡◌, ℕ, suc, ◌+◌, ◌≤◌, max, Bool, true, false, not, ◌&&◌, eqb, List, [], ◌∷◌, length, sym, refl, ap, ◌∙◌, subst, inl, inr, le_trans, le_refl, arith}
 use Rattle.std.proofs.lemmas.Bool.{false≢true, and_parts, and_from}
 use Rattle.std.proofs.Math.Nat.{le-max_left, le-max_right}
-use Rattle.model.specs.State.{Machine, Job, Task, State, is_ready_lem, of_job}
+use Rattle.model.specs.State.{Machine, Job, Task, State}
 use Rattle.model.specs.Lists.{some, keep, same}
-use Rattle.model.specs.Settle.{mine, settle}
-use Rattle.model.specs.Calls.{Seen, timed}
-use Rattle.model.specs.World.{World, Reach}
+use Rattle.model.specs.Settle.{mine}
+use Rattle.model.specs.Calls.{timed}
 use Rattle.rest.specs.Rounds.{Anyhow, Roomy}
 use Rattle.rest.specs.Rest.{is_alive, is_new}
 use Rattle.rest.specs.Sooner.{largest, widest, strays, ComesSooner}
-use Rattle.model.proofs.Lists.{bool, In, in_from, in_to, some_at, bump, count_cons, Pass, done, gone, goes, pass_up, pass_down}
+use Rattle.model.proofs.Lists.{bool, In, in_from, some_at, bump, count_cons, Pass, done, gone, goes, pass_down}
 use Rattle.model.proofs.Tasks.{Never}
 use Rattle.model.proofs.Settles.{Fine}
 use Rattle.model.proofs.Acts.{fine_heard, fine_timed}
 use Rattle.model.proofs.Keeps.{Sound}
 use Rattle.model.proofs.Worlds.{inv_reach}
-use Rattle.rest.proofs.Lacks.{news, lacks}
+use Rattle.rest.proofs.Lacks.{news}
 use Rattle.rest.proofs.Stuck.{Resting}
 use Rattle.rest.proofs.Origins.{Lost, Went, hear_pass}
-use Rattle.rest.proofs.Knows.{Unsured, unsured, unsured_as, unsured_new, went_new, went_as, Steady}
+use Rattle.rest.proofs.Knows.{Unsured, unsured, unsured_as, unsured_new, went_new, went_as}
 use Rattle.rest.proofs.Scenes.{Scene, told, Move, visit, tick, stays, sound_move, Moves, stop, go, Turn, Turns}
 use Rattle.rest.proofs.Comes.{Going}
 use Rattle.rest.proofs.Quiets.{going_run, on_run}
@@ -32,7 +30,6 @@ use Rattle.rest.proofs.Lines.{scene, runs, run_reach, rounds, rounds_reach}
 use Rattle.rest.proofs.Own.{own, owns, left_of, whole_of, owns_mine}
 use Rattle.rest.proofs.Bounds.{bounded_first}
 use Rattle.rest.proofs.OwnMoves.{Fit, settle_at, fit_told, fit_timed, fit_move, As, own_as}
-use Rattle.rest.proofs.OwnQuiet.{fit_run}
 use Rattle.rest.proofs.OwnRest.{RestOf, comes_of}
 use Rattle.rest.proofs.Strays.{Ending', NoStrays, strays_run, strays_gone, strays_stay}
 

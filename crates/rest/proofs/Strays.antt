@@ -1,14 +1,12 @@
 -- Tasks of no job are ending in every world that is reached, and are gone after two rounds.
 -- Assumes nothing.
 use Rattle.std.proofs.Common.{◌≡◌, ℕ, Bool, true, false, not, eqb, ◌⊎◌, List, [], ◌∷◌, ◌++◌, sym, refl, ap, ◌∙◌, subst, inl, inr}
-use mathlib.Core.List.{Memᴰ}
-use Rattle.std.proofs.lemmas.Bool.{not-true, eqb-true, eqb-false, and_from, eq-eqb}
-use Rattle.model.specs.State.{Machine, Job, Task, State, is_waiting, is_ending, on_machine, of_job, with_tasks}
+use Rattle.std.proofs.lemmas.Bool.{eqb-true, eqb-false, and_from, eq-eqb}
+use Rattle.model.specs.State.{Job, Task, State, is_waiting, is_ending, on_machine, of_job, with_tasks}
 use Rattle.model.specs.Lists.{some, keep, same}
-use Rattle.model.specs.Settle.{ended, fresh, for_job, orphans_end, unplaced, settle}
-use Rattle.model.specs.Calls.{Seen, timed}
+use Rattle.model.specs.Settle.{ended, fresh, orphans_end, unplaced, settle}
+use Rattle.model.specs.Calls.{timed}
 use Rattle.model.specs.World.{is_order, is_seen}
-use Rattle.rest.specs.Rest.{is_alive}
 use Rattle.model.proofs.Lists.{clash, bool, In, in_from, in_to, in_keep, keep_in, some_from, pass_from}
 use Rattle.model.proofs.Tasks.{same_refl, jobless, orphans_pass, ended_pass, MayEnd, step_is, steps_are, Put, Never}
 use Rattle.model.proofs.Settles.{Tidy, tidy_pass, tidy_step, orphan_id, settle_pass, Fine}
@@ -16,7 +14,7 @@ use Rattle.model.proofs.Acts.{fine_heard, fine_timed}
 use Rattle.rest.proofs.Falls.{Wanted, waiting_alive, ready_alive, ending_ending}
 use Rattle.rest.proofs.Origins.{Went, hear_pass}
 use Rattle.rest.proofs.Scenes.{Scene, told, Visits, Move, visit, tick, stays, sound_move, Moves, stop, go, Turn, Turns}
-use Rattle.rest.proofs.Knows.{Unsured, unsured, unsured_as, went_as}
+use Rattle.rest.proofs.Knows.{Unsured, unsured}
 use Rattle.rest.proofs.Comes.{Going, going_move}
 use Rattle.rest.proofs.Quiets.{visit_exact, in_app, going_run, back_run}
 use Rattle.rest.proofs.Begins.{jobs_move}
@@ -46,13 +44,13 @@ strays_pass s f w = placing ∙ all.1
     orphans : keep st (orphans_end js s.tasks) ≡ keep st s.tasks
     orphans =
         keep_pass _ _ st (orphans_pass js s.tasks) (λ x i d. clash (is_waiting x.phase) d.1 (ends x i d.0)) (λ x y i r. elim r [ inl e ↦ ap st e | inr e ↦ ap st e.1.1 ])
-            (λ x y i r o. elim r [ inl e ↦ e | inr e ↦ e.1.1 ∙ ending_ending x (w x i o) ])
+        (λ x y i r o. elim r [ inl e ↦ e | inr e ↦ e.1.1 ∙ ending_ending x (w x i o) ])
 
     ending : (j : Job) → In j js → (u : State) → P u → (xs : List Task) → MayEnd u j xs → keep st (ended xs u.tasks) ≡ keep st s.tasks
     ending j ji u p [] m = p.1
     ending j ji u p (t ∷ ts) m =
         keep_pass _ _ st (ended_pass 0 u.tasks p.0.0 t m.0 ts) (λ x i d. ap st d.0 ∙ of_is_wanted js j ji t m.1) (λ x y i r. elim r [ inl e ↦ ap st e | inr e ↦ ap st e.1.1 ])
-            (λ x y i r o. elim r [ inl e ↦ e | inr e ↦ clash (st x) o (ap st e.0 ∙ of_is_wanted js j ji t m.1) ])
+        (λ x y i r o. elim r [ inl e ↦ e | inr e ↦ clash (st x) o (ap st e.0 ∙ of_is_wanted js j ji t m.1) ])
         ∙ p.1
 
     all : P (unplaced s)
@@ -62,7 +60,7 @@ strays_pass s f w = placing ∙ all.1
     placing : keep st (settle s).tasks ≡ keep st (unplaced s).tasks
     placing =
         keep_pass Never Put st (settle_pass s f.tidy) (λ x i d. absurd d) (λ x y i r. elim r [ inl e ↦ ap st e | inr e ↦ ap st e.3 ])
-            (λ x y i r o. elim r [ inl e ↦ e | inr e ↦ clash (is_waiting x.phase) e.0 (let k = in_keep st s.tasks x (subst (In x) all.1 (keep_in st (unplaced s).tasks x i o)) in ends x k.0 k.1) ])
+        (λ x y i r o. elim r [ inl e ↦ e | inr e ↦ clash (is_waiting x.phase) e.0 (let k = in_keep st s.tasks x (subst (In x) all.1 (keep_in st (unplaced s).tasks x i o)) in ends x k.0 k.1) ])
 
 strays_from : (s : State) → Fine s → Wanted s.jobs s.tasks → (t : Task) → In t (settle s).tasks → jobless s.jobs t ≡ true → In t s.tasks
 strays_from s f w t i e = (in_keep (jobless s.jobs) s.tasks t (subst (In t) (strays_pass s f w) (keep_in (jobless s.jobs) (settle s).tasks t i e))).0

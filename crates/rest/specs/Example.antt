@@ -6,6 +6,7 @@ use Rattle.model.specs.Calls.{Call, SetJob, AddMachine, Report, Tick, Order, lin
 use Rattle.model.specs.World.{Back, World, start, report_of, reported, risen, running, obeys, with_herd, with_agent, with_word, Reach}
 use Rattle.rest.specs.Rounds.{Anyhow, Roomy, Round, Rounds}
 use Rattle.rest.specs.Rest.{enough, SomeMachine, said_by}
+use Rattle.rest.specs.Sooner.{Apart, enough_apart}
 
 -- WHAT IS DONE IN IT, with the agent of machine 1
 
@@ -72,7 +73,7 @@ after_five = turned (order 2 2 ∷ []) after_four
 -- what is asked for all to come to rest is met by some world and rounds that do so: there is a job of which one is wanted, an old task of it is ending at the beginning, and one of the present version is there at the end
 abbrev pub RestIsMet : Type 0
 RestIsMet =
-    Reach at_first × SomeMachine at_first.herd × Round Anyhow at_first after_one × Rounds Roomy 4 after_one after_five × (enough at_first.herd ≤ 4 + 1) ×
+    Reach at_first × SomeMachine at_first.herd × Round Anyhow at_first after_one × Rounds Roomy 4 after_one after_five × (enough at_first.herd ≤ 4 + 1) × Apart at_first.herd × (enough_apart at_first.herd ≤ 4 + 1) ×
     (map (λ (j : Job). j.count) at_first.herd.jobs ≡ 1 ∷ []) ×
     (lines_of at_first.herd.tasks ≡ record { id = 1; version = 1; phase = Ending; machine = 1 } ∷ []) ×
     (lines_of after_five.herd.tasks ≡ record { id = 2; version = 2; phase = Ready; machine = 1 } ∷ [])

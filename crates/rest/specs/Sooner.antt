@@ -1,9 +1,10 @@
 -- Fewer rounds: by the largest job, and not by all jobs together, where the limit of 2,048 tasks cannot bind.
 -- Assumes nothing.
-use Rattle.std.specs.Prelude.{◌≡◌, ℕ, ◌+◌, ◌*◌, ◌≤◌, max, Bool, not, List, [], ◌∷◌, length}
+use Rattle.std.specs.Prelude.{◌≡◌, ℕ, ◌+◌, ◌*◌, ◌≤◌, max, not, List, [], ◌∷◌, length}
 use Rattle.model.specs.Lists.{some, keep, same}
 use Rattle.model.specs.State.{Job, Task, State}
 use Rattle.model.specs.Settle.{mine}
+use mathlib.Core.List.{Memᴰ}
 use Rattle.model.specs.World.{World, Reach}
 use Rattle.rest.specs.Rounds.{Anyhow, Roomy, Round, Rounds}
 use Rattle.rest.specs.Rest.{AtRest, is_alive, SomeMachine, StaysAtRest}
@@ -33,3 +34,9 @@ enough_apart s = 3 + 2 * largest s.jobs s.tasks
 abbrev pub ComesSooner : Type 0
 ComesSooner =
     (w u v : World) (n : ℕ) → Reach w → SomeMachine w.herd → Apart w.herd → Round Anyhow w u → Rounds Roomy n u v → enough_apart w.herd ≤ n + 1 → AtRest v.herd × StaysAtRest v
+
+-- The limit cannot bind where no job has more than its most, and each task is of a job that is wanted: what setting jobs grants to all of them together is at most 2,048.
+-- (A job has more only if its most was lowered, or it was set anew over tasks of an ended job of its name: NeverOver.)
+abbrev pub ApartWhereKept : Type 0
+ApartWhereKept =
+    (w : World) → Reach w → ((j : Job) → Memᴰ j w.herd.jobs → length (mine j w.herd.tasks) ≤ j.most) → ((t : Task) → Memᴰ t w.herd.tasks → (j : Job) × Memᴰ j w.herd.jobs × (j.name ≡ t.job)) → Apart w.herd

@@ -8,7 +8,7 @@
 ghost use Rattle.rest.specs.Example.{RestIsMet};
 ghost use Rattle.rest.specs.Listed.{RunsAsListed};
 ghost use Rattle.rest.specs.Rest.{ComesToRest, IsAnswered, RoundCanBe};
-ghost use Rattle.rest.specs.Sooner.{ComesSooner};
+ghost use Rattle.rest.specs.Sooner.{ApartWhereKept, ComesSooner};
 
 // If no call comes but reports and times, agents and the herd stay up, each machine reports at least
 // every 30,000 ms of told time, and what is ordered is ready when its machine reports,
@@ -25,6 +25,13 @@ pub fn comes_to_rest() -> u8
 // where the limit of 2,048 tasks cannot bind.
 pub fn comes_sooner() -> u8
     ensures { ComesSooner }
+{
+    0
+}
+
+// The limit cannot bind where no job has more than its most and each task is of a job that is wanted.
+pub fn apart_where_kept() -> u8
+    ensures { ApartWhereKept }
 {
     0
 }
