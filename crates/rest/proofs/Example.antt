@@ -12,7 +12,7 @@ use Rattle.rest.specs.Rounds.{Anyhow, Roomy, Round, Rounds}
 use Rattle.rest.specs.Rest.{wanted_of}
 use Rattle.rest.specs.Sooner.{largest, widest}
 use Rattle.rest.specs.Example.{told, came_up, turned, brought_up, order, set, at_first, after_one, after_two, after_three, after_four, after_five, RestIsMet}
-use Rattle.rest.proofs.Play.{answers, roomy, obeyed_one, say, up, turn, bring_up, cycle, starting, round_of}
+use Rattle.rest.proofs.Play.{answers, roomy, obeyed_one, say, up, turn, bring_up, cycle, starting, round_of, any_round, calm_round}
 
 reached : Reach at_first
 unfolding some every keep find change none same last_of head_or cpu_of mem_of ended for_jobs orphans_end best place place_all_lem alike all_most sets_job seen_as heard_of_lem heard_all orders reports unsure acts may_run at_first
@@ -26,11 +26,11 @@ reached =
 
 first : Round Anyhow at_first after_one
 unfolding some every keep find change none same last_of head_or cpu_of mem_of ended for_jobs orphans_end best place place_all_lem alike all_most sets_job seen_as heard_of_lem heard_all orders reports unsure acts may_run at_first after_one answers
-first = round_of Anyhow at_first after_one (cycle Anyhow [] at_first refl (obeyed_one at_first 1 refl) refl refl tt tt) refl
+first = any_round [] at_first refl refl refl refl refl
 
 second : Round Roomy after_one after_two
 unfolding some every keep find change none same last_of head_or cpu_of mem_of ended for_jobs orphans_end best place place_all_lem alike all_most sets_job seen_as heard_of_lem heard_all orders reports unsure acts may_run at_first after_one after_two answers
-second = round_of Roomy after_one after_two (cycle Roomy (order 2 2 ∷ []) after_one refl (obeyed_one after_one 1 refl) refl refl (roomy after_one.herd refl refl) (roomy after_two.herd refl refl)) refl
+second = calm_round (order 2 2 ∷ []) after_one refl refl refl refl refl (roomy after_one.herd refl refl) (roomy after_two.herd refl refl)
 
 third : Round Roomy after_two after_three
 unfolding some every keep find change none same last_of head_or cpu_of mem_of ended for_jobs orphans_end best place place_all_lem alike all_most sets_job seen_as heard_of_lem heard_all orders reports unsure acts may_run at_first after_one after_two after_three answers
@@ -40,11 +40,11 @@ third =
 
 fourth : Round Roomy after_three after_four
 unfolding some every keep find change none same last_of head_or cpu_of mem_of ended for_jobs orphans_end best place place_all_lem alike all_most sets_job seen_as heard_of_lem heard_all orders reports unsure acts may_run at_first after_one after_two after_three after_four answers
-fourth = round_of Roomy after_three after_four (cycle Roomy (order 2 2 ∷ []) after_three refl (obeyed_one after_three 1 refl) refl refl (roomy after_three.herd refl refl) (roomy after_four.herd refl refl)) refl
+fourth = calm_round (order 2 2 ∷ []) after_three refl refl refl refl refl (roomy after_three.herd refl refl) (roomy after_four.herd refl refl)
 
 fifth : Round Roomy after_four after_five
 unfolding some every keep find change none same last_of head_or cpu_of mem_of ended for_jobs orphans_end best place place_all_lem alike all_most sets_job seen_as heard_of_lem heard_all orders reports unsure acts may_run at_first after_one after_two after_three after_four after_five answers
-fifth = round_of Roomy after_four after_five (cycle Roomy (order 2 2 ∷ []) after_four refl (obeyed_one after_four 1 refl) refl refl (roomy after_four.herd refl refl) (roomy after_five.herd refl refl)) refl
+fifth = calm_round (order 2 2 ∷ []) after_four refl refl refl refl refl (roomy after_four.herd refl refl) (roomy after_five.herd refl refl)
 
 pub rest_is_met : RestIsMet
 unfolding some every keep find change none same last_of head_or cpu_of mem_of ended for_jobs orphans_end best place place_all_lem alike all_most sets_job seen_as heard_of_lem heard_all orders reports unsure lines_of acts may_run wanted_of largest widest at_first after_one after_two after_three after_four after_five

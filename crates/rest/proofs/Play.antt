@@ -8,7 +8,7 @@ use Rattle.model.specs.State.{Machine, Job, State}
 use Rattle.model.specs.Settle.{takes, fresh}
 use Rattle.model.specs.Calls.{Seen, Call, SetJob, EndJob, AddMachine, Close, Reopen, Forget, Report, Tick, Show, Order, Run, does}
 use Rattle.model.specs.World.{Word, Up, Back, World, is_seen, running, with_agent, Step, Reach}
-use Rattle.rest.specs.Rounds.{Obeyed, Calm, Course, Roomy, Round}
+use Rattle.rest.specs.Rounds.{Obeyed, Calm, Course, Anyhow, Roomy, Round}
 use Rattle.rest.specs.Rest.{said_by}
 use Rattle.rest.specs.Example.{told, came_up, has_sent, was_heard, turned, started, brought_up}
 use Rattle.model.proofs.Lists.{from_true, never, In, in_from, in_to, every_at, some_at}
@@ -102,3 +102,12 @@ starting P o w m e p c = Course.go (begun_calm o w m e) p (Course.go (Calm.becom
 
 pub round_of : (P : State → Type 0) (w v : World) → Course P (1 ∷ []) w v → every (λ (m : Machine). eqb 1 m.num) w.herd.machines ≡ true → Round P w v
 round_of P w v c e = (1 ∷ [], c, λ m i. in_to m.num (1 ∷ []) (inl (sym (eqb-true 1 m.num (every_at (λ (x : Machine). eqb 1 x.num) w.herd.machines e m (in_from i))))))
+
+-- a first round, and one of those with room
+pub any_round : (os : List Order) (w : World) → ltb 0 (w.agent 1).life ≡ true → answers 1 (w.agent 1).life (w.agent 1).number w.sent ≡ (w.agent 1).ordered ∷ [] → every (λ (x : Seen). x.ready) (said_by (w.agent 1)) ≡ true →
+    (does (Report 1 (w.agent 1).life ((w.agent 1).number + 1) (said_by (w.agent 1))) w.herd).reply ≡ Run ((w.agent 1).number + 1) os → every (λ (m : Machine). eqb 1 m.num) w.herd.machines ≡ true → Round Anyhow w (turned os w)
+any_round os w l o d e m = round_of Anyhow w (turned os w) (cycle Anyhow os w l (obeyed_one w 1 o) d e tt tt) m
+
+pub calm_round : (os : List Order) (w : World) → ltb 0 (w.agent 1).life ≡ true → answers 1 (w.agent 1).life (w.agent 1).number w.sent ≡ (w.agent 1).ordered ∷ [] → every (λ (x : Seen). x.ready) (said_by (w.agent 1)) ≡ true →
+    (does (Report 1 (w.agent 1).life ((w.agent 1).number + 1) (said_by (w.agent 1))) w.herd).reply ≡ Run ((w.agent 1).number + 1) os → every (λ (m : Machine). eqb 1 m.num) w.herd.machines ≡ true → Roomy w.herd → Roomy (turned os w).herd → Round Roomy w (turned os w)
+calm_round os w l o d e m p q = round_of Roomy w (turned os w) (cycle Roomy os w l (obeyed_one w 1 o) d e p q) m
