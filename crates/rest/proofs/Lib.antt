@@ -27,3 +27,4 @@ mod OwnQuiet
 mod OwnRest
 mod Strays
 mod Sooner
+mod Unknown

@@ -3,3 +3,4 @@ pub mod Rest
 pub mod Listed
 pub mod Example
 pub mod Sooner
+pub mod Unknown

@@ -9,6 +9,7 @@ ghost use Rattle.rest.specs.Example.{RestIsMet};
 ghost use Rattle.rest.specs.Listed.{RunsAsListed};
 ghost use Rattle.rest.specs.Rest.{ComesToRest, IsAnswered, RoundCanBe};
 ghost use Rattle.rest.specs.Sooner.{ApartWhereKept, ComesSooner};
+ghost use Rattle.rest.specs.Unknown.{SparesUnknown};
 
 // If no call comes but reports and times, agents and the herd stay up, each machine reports at least
 // every 30,000 ms of told time, and what is ordered is ready when its machine reports,
@@ -62,6 +63,14 @@ pub fn round_can_be() -> u8
 // its old task is ending, and after five rounds one of the new image is there, ready.
 pub fn rest_is_met() -> u8
     ensures { RestIsMet }
+{
+    0
+}
+
+// A pass ends no task of a wanted job of which nobody knows whether it is ready: one that is told,
+// on a machine that isn't present. So a herd that has just woken takes away nothing that may be ready.
+pub fn spares_unknown() -> u8
+    ensures { SparesUnknown }
 {
     0
 }
