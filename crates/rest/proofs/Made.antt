@@ -1,20 +1,25 @@
 -- A round can always be made, as long as numbers are left.
 -- Assumes nothing.
-use Rattle.std.proofs.Common.{◌≡◌, ℕ, suc, ◌+◌, ◌<◌, ◌≤◌, true, false, ◌&&◌, eqb, ◌⊎◌, List, [], ◌∷◌, ◌++◌, length, sym, refl, ap, ◌∙◌, subst, inl, inr, append_assoc, arith}
+use Rattle.std.proofs.Common.{◌≡◌, ℕ, zero, suc, ◌+◌, ◌*◌, ◌<◌, ◌≤◌, Bool, true, false, cond, ◌&&◌, eqb, ◌⊎◌, List, [], ◌∷◌, ◌++◌, length, sym, refl, ap, ◌∙◌, subst, inl, inr, append_assoc, arith}
 use mathlib.Core.List.{Memᴰ}
 use Rattle.std.proofs.lemmas.Bool.{true≢false, and_parts, and_from, eqb-true, eq-eqb}
 use Rattle.model.specs.State.{Machine, State, is_machine}
 use Rattle.model.specs.Settle.{settle}
 use Rattle.model.specs.Calls.{Seen, Report, Order, Run, heard_from, does, heard}
 use Rattle.model.specs.World.{Agent, Word, Up, Back, World, put, is_seen, is_ready_in, obeys, Reach, reported}
-use Rattle.rest.specs.Rounds.{Anyhow, Obeyed, Calm, Course}
-use Rattle.rest.specs.Rest.{next_report, said_by, RoundCanBe}
+use Rattle.rest.specs.Rounds.{Anyhow, Obeyed, Calm, Course, Round, Rounds}
+use Rattle.std.proofs.Math.Nat.{suc-mul}
+use Rattle.model.specs.Lists.{change}
+use Rattle.model.specs.Calls.{timed}
+use Rattle.rest.proofs.Scenes.{Scene, told, Move, visit, tick, stays, Moves, stop, go}
+use Rattle.rest.proofs.Quiets.{back_run}
+use Rattle.rest.specs.Rest.{next_report, said_by, RoundCanBe, RoundsCanBe}
 use Rattle.model.proofs.Lists.{bool, In, in_from, in_to, some_from, some_at, pass_change, pass_to}
 use Rattle.model.proofs.Settles.{unplaced_alike}
 use Rattle.model.proofs.Worlds.{hears_is, put_is}
 use Rattle.rest.proofs.Origins.{says_ready}
 use Rattle.rest.proofs.Answered.{is_answered}
-use Rattle.rest.proofs.Lines.{run_reach}
+use Rattle.rest.proofs.Lines.{runs, run_reach}
 use Rattle.rest.proofs.Alone.{not_up, one_reach, put_at, put_off, Near, near_then, Started, start_all, Readied, ready_all}
 
 -- THE ANSWER THAT IT HAS IS OBEYED
@@ -180,8 +185,18 @@ visit_made w i m mi r mm t l lo no' = (z.0, runs_then way z.1, after)
 abbrev Able : World → ℕ → ℕ → Type 0
 Able w k i = (0 < (w.agent i).life) × ((w.agent i).life ≤ 4611686018427387904) × ((w.agent i).number + k ≤ 4611686018427387904)
 
-all_made : (ms : List Machine) (w : World) → Reach w → 0 < w.herd.now → ((x : Machine) → In x ms → (y : Machine) × In y w.herd.machines × (y.num ≡ x.num)) → ((x : Machine) → In x ms → Able w (length ms) x.num) → (v : World) × (ks : List ℕ) × Course Anyhow ks w v × ((x : Machine) → In x ms → In x.num ks)
-all_made [] w r t h a = (w, [], Course.stop w, λ x j. absurd j)
+-- a report of each is heard; times and lives stay, and no report number rises by more than there are machines
+pub record Made (ms : List Machine) (w : World) : Type 0 where
+  pub after : World
+  pub heard_of : List ℕ
+  pub way : Course Anyhow heard_of w after
+  pub each : (x : Machine) → In x ms → In x.num heard_of
+  pub now : after.herd.now ≡ w.herd.now
+  pub life : (j : ℕ) → (after.agent j).life ≡ (w.agent j).life
+  pub number : (j : ℕ) → (after.agent j).number ≤ (w.agent j).number + length ms
+
+all_made : (ms : List Machine) (w : World) → Reach w → 0 < w.herd.now → ((x : Machine) → In x ms → (y : Machine) × In y w.herd.machines × (y.num ≡ x.num)) → ((x : Machine) → In x ms → Able w (length ms) x.num) → Made ms w
+all_made [] w r t h a = record { after = w; heard_of = []; way = Course.stop w; each = λ x j. absurd j; now = refl; life = λ j. refl; number = λ j. omega arith }
 all_made (m ∷ ms) w r t h a = join (all_made ms v (run_reach r z.1) (subst (λ (k : ℕ). 0 < k) (sym z.2.now) t) there able)
   where
     y : (x : Machine) × In x w.herd.machines × (x.num ≡ m.num)
@@ -204,14 +219,69 @@ all_made (m ∷ ms) w r t h a = join (all_made ms v (run_reach r z.1) (subst (λ
         let p = a x (inr j) in let b : (w.agent x.num).number + suc (length ms) ≤ 4611686018427387904 = p.2 in let c : (v.agent x.num).number ≤ suc (w.agent x.num).number = z.2.number x.num in
         (subst (λ (k : ℕ). 0 < k) (sym (z.2.life x.num)) p.0, subst (λ (k : ℕ). k ≤ 4611686018427387904) (sym (z.2.life x.num)) p.1, omega arith)
 
-    join : (u : World) × (ks : List ℕ) × Course Anyhow ks v u × ((x : Machine) → In x ms → In x.num ks) → (u : World) × (ks : List ℕ) × Course Anyhow ks w u × ((x : Machine) → In x (m ∷ ms) → In x.num ks)
-    join (u, ks, rs, c) = (u, m.num ∷ ks, runs_then z.1 rs, cover)
+    join : Made ms v → Made (m ∷ ms) w
+    join q =
+        record {
+          after = q.after;
+          heard_of = m.num ∷ q.heard_of;
+          way = runs_then z.1 q.way;
+          each = each;
+          now = q.now ∙ z.2.now;
+          life = λ j. q.life j ∙ z.2.life j;
+          number = λ j. let b : (q.after.agent j).number ≤ (v.agent j).number + length ms = q.number j in let c : (v.agent j).number ≤ suc (w.agent j).number = z.2.number j in omega arith;
+        }
       where
-        cover : (x : Machine) → In x (m ∷ ms) → In x.num (m.num ∷ ks)
-        cover x (inl e) = inl (ap (λ (q : Machine). q.num) e)
-        cover x (inr j) = inr (c x j)
+        each : (x : Machine) → In x (m ∷ ms) → In x.num (m.num ∷ q.heard_of)
+        each x (inl e) = inl (ap (λ (k : Machine). k.num) e)
+        each x (inr j) = inr (q.each x j)
+
+whole_round : (w : World) → Reach w → 0 < w.herd.now → ((m : Machine) → Memᴰ m w.herd.machines → Able w (length w.herd.machines) m.num) → Made w.herd.machines w
+whole_round w r t h = all_made w.herd.machines w r t (λ x j. (x, j, refl)) (λ x j. h x (in_to x w.herd.machines j))
+
+round_from : {w : World} → (z : Made w.herd.machines w) → Round Anyhow w z.after
+round_from {w} z = (z.heard_of, z.way, λ m j. in_to m.num z.heard_of (z.each m (in_from j)))
 
 pub round_can_be : RoundCanBe
-round_can_be w r t h =
-    let z = all_made w.herd.machines w r t (λ x j. (x, j, refl)) (λ x j. h x (in_to x w.herd.machines j)) in
-    (z.0, (z.1, z.2, λ m j. in_to m.num z.1 (z.3 m (in_from j))))
+round_can_be w r t h = let z = whole_round w r t h in (z.after, round_from z)
+
+-- ROUND AFTER ROUND
+
+length_change : {A : Type 0} (f : A → Bool) (g : A → A) (xs : List A) → length (change f g xs) ≡ length xs
+unfolding change
+length_change f g [] = refl
+length_change {A} f g (x ∷ xs) = pick (f x) (length_change f g xs)
+  where
+    pick : (b : Bool) → length (change f g xs) ≡ length xs → length (cond b (g x ∷ xs) (x ∷ change f g xs)) ≡ suc (length xs)
+    pick true e = refl
+    pick false e = ap suc e
+
+count_move : {ks : List ℕ} {w v : Scene} → Move ks w v → length v.herd.machines ≡ length w.herd.machines
+count_move {w = w} {v = v} (visit i vs snd) = ap (λ (s : State). length s.machines) vs.herd ∙ (ap length (unplaced_alike (told w v i vs)).1 ∙ length_change (is_machine i) _ w.herd.machines)
+count_move {w = w} (tick ts snd) = ap (λ (s : State). length s.machines) ts.herd ∙ ap length (unplaced_alike (timed ts.time w.herd)).1
+count_move (stays ss snd) = ap (λ (s : State). length s.machines) ss.herd
+
+count_run : {P : State → Type 0} {ks : List ℕ} {w v : Scene} → Moves P ks w v → length v.herd.machines ≡ length w.herd.machines
+count_run (stop w) = refl
+count_run (go c p rest) = count_run rest ∙ count_move c
+
+pub rounds_can_be : RoundsCanBe
+rounds_can_be w zero r t h = (w, Rounds.none w)
+rounds_can_be w (suc n) r t h = join (rounds_can_be z.after n (run_reach r z.way) (subst (λ (k : ℕ). 0 < k) (sym z.now) t) able)
+  where
+    k : ℕ
+    k = length w.herd.machines
+
+    z : Made w.herd.machines w
+    z = whole_round w r t (λ m j. let a = h m j in let b : (w.agent m.num).number + suc n * k ≤ 4611686018427387904 = a.2 in let c : suc n * k ≡ n * k + k = suc-mul n k in (a.0, a.1, omega arith))
+
+    able : (m : Machine) → Memᴰ m z.after.herd.machines → Able z.after (n * length z.after.herd.machines) m.num
+    able m j =
+        let x = back_run (runs r z.way) m (in_from j) in
+        let a = subst (Able w (suc n * k)) (sym x.2) (h x.0 (in_to x.0 w.herd.machines x.1)) in
+        let b : (w.agent m.num).number + suc n * k ≤ 4611686018427387904 = a.2 in
+        let c : suc n * k ≡ n * k + k = suc-mul n k in
+        let d : (z.after.agent m.num).number ≤ (w.agent m.num).number + k = z.number m.num in
+        (subst (λ (q : ℕ). 0 < q) (sym (z.life m.num)) a.0, subst (λ (q : ℕ). q ≤ 4611686018427387904) (sym (z.life m.num)) a.1, subst (λ (q : ℕ). (z.after.agent m.num).number + n * q ≤ 4611686018427387904) (sym (count_run (runs r z.way))) (omega arith))
+
+    join : (v : World) × Rounds Anyhow n z.after v → (v : World) × Rounds Anyhow (suc n) w v
+    join (v, rs) = (v, Rounds.more (round_from z) rs)

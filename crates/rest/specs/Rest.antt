@@ -79,3 +79,10 @@ RoundCanBe =
     (w : World) → Reach w → 0 < w.herd.now →
     ((m : Machine) → Memᴰ m w.herd.machines → (0 < (w.agent m.num).life) × ((w.agent m.num).life ≤ 4611686018427387904) × ((w.agent m.num).number + length w.herd.machines ≤ 4611686018427387904)) →
     (u : World) × Round Anyhow w u
+
+-- and so any number of rounds, one after the other, as long as the numbers suffice
+abbrev pub RoundsCanBe : Type 0
+RoundsCanBe =
+    (w : World) (n : ℕ) → Reach w → 0 < w.herd.now →
+    ((m : Machine) → Memᴰ m w.herd.machines → (0 < (w.agent m.num).life) × ((w.agent m.num).life ≤ 4611686018427387904) × ((w.agent m.num).number + n * length w.herd.machines ≤ 4611686018427387904)) →
+    (v : World) × Rounds Anyhow n w v

@@ -7,7 +7,7 @@
 
 ghost use Rattle.rest.specs.Example.{RestIsMet};
 ghost use Rattle.rest.specs.Listed.{RunsAsListed};
-ghost use Rattle.rest.specs.Rest.{ComesToRest, IsAnswered, RoundCanBe};
+ghost use Rattle.rest.specs.Rest.{ComesToRest, IsAnswered, RoundCanBe, RoundsCanBe};
 ghost use Rattle.rest.specs.Sooner.{ApartWhereKept, ComesSooner};
 ghost use Rattle.rest.specs.Unknown.{SparesUnknown};
 
@@ -55,6 +55,13 @@ pub fn is_answered() -> u8
 // Where all agents are up and numbers are left a round can be made.
 pub fn round_can_be() -> u8
     ensures { RoundCanBe }
+{
+    0
+}
+
+// And so any number of rounds, one after the other, as long as the numbers suffice.
+pub fn rounds_can_be() -> u8
+    ensures { RoundsCanBe }
 {
     0
 }
