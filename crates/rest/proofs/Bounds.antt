@@ -7,7 +7,8 @@ use Rattle.model.specs.State.{Job, Task, State, of_job, with_tasks}
 use Rattle.model.specs.Lists.{some, same}
 use Rattle.model.specs.Settle.{mine, alive, new_ones, ended, fresh, for_job, for_jobs, orphans_end, unplaced, settle, may_grow_lem, more}
 use Rattle.model.specs.Calls.{all_most}
-use Rattle.rest.specs.Sooner.{widest, strays, ApartWhereKept}
+use Rattle.rest.specs.Sooner.{widest, strays, ApartWhereKept, ApartUnlowered}
+use Rattle.model.proofs.Over.{never_over_lem}
 use Rattle.rest.proofs.Steps.{keep_none}
 use Rattle.rest.proofs.Orderlies.{steady_reach}
 use Rattle.model.proofs.Lists.{in_from, in_to, In, keep_end, count_cons, bump, some_from, Pass, pass_down}
@@ -140,3 +141,6 @@ apart_where_kept w r h k =
   where
     none : (t : Task) → In t w.herd.tasks → jobless w.herd.jobs t ≡ false
     none t i = let q = k t (in_to t w.herd.tasks i) in ap not (some_from (λ (j : Job). same j.name t.job) w.herd.jobs q.0 (in_from q.1) (eq_same q.0.name t.job q.2))
+
+pub apart_unlowered : ApartUnlowered
+apart_unlowered w r u k = apart_where_kept w r (λ j i. (never_over_lem w r j i (u j i)).0) k

@@ -59,4 +59,5 @@ rest_is_met = (
   refl,
   refl,
   refl,
+  refl,
 )

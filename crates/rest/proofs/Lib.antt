@@ -1,30 +1,30 @@
-mod Steps
-mod Lacks
-mod Falls
-mod Stuck
-mod Origins
-mod Scenes
-mod Knows
-mod Comes
-mod Quiets
-mod Rests
-mod Laws
-mod Orderlies
-mod Answered
-mod Whole
-mod Begins
-mod Lines
-mod Alone
-mod Made
-mod Listed
-mod Play
-mod Example
-mod Own
-mod Bounds
-mod OwnPass
-mod OwnMoves
-mod OwnQuiet
-mod OwnRest
-mod Strays
-mod Sooner
-mod Unknown
+pub mod Steps
+pub mod Lacks
+pub mod Falls
+pub mod Stuck
+pub mod Origins
+pub mod Scenes
+pub mod Knows
+pub mod Comes
+pub mod Quiets
+pub mod Rests
+pub mod Laws
+pub mod Orderlies
+pub mod Answered
+pub mod Whole
+pub mod Begins
+pub mod Lines
+pub mod Alone
+pub mod Made
+pub mod Listed
+pub mod Play
+pub mod Example
+pub mod Own
+pub mod Bounds
+pub mod OwnPass
+pub mod OwnMoves
+pub mod OwnQuiet
+pub mod OwnRest
+pub mod Strays
+pub mod Sooner
+pub mod Unknown

@@ -70,10 +70,11 @@ after_four = turned (order 2 2 ∷ []) after_three
 unfoldable pub after_five : World
 after_five = turned (order 2 2 ∷ []) after_four
 
--- what is asked for all to come to rest is met by some world and rounds that do so: there is a job of which one is wanted, an old task of it is ending at the beginning, and one of the present version is there at the end
+-- what is asked for all to come to rest is met by some world and rounds that do so: there is a job of which one is wanted, an old task of it is ending at the beginning, and one of the present version is there at the end, and runs
 abbrev pub RestIsMet : Type 0
 RestIsMet =
     Reach at_first × SomeMachine at_first.herd × Round Anyhow at_first after_one × Rounds Roomy 4 after_one after_five × (enough at_first.herd ≤ 4 + 1) × Apart at_first.herd × (enough_apart at_first.herd ≤ 4 + 1) ×
     (map (λ (j : Job). j.count) at_first.herd.jobs ≡ 1 ∷ []) ×
     (lines_of at_first.herd.tasks ≡ record { id = 1; version = 1; phase = Ending; machine = 1 } ∷ []) ×
-    (lines_of after_five.herd.tasks ≡ record { id = 2; version = 2; phase = Ready; machine = 1 } ∷ [])
+    (lines_of after_five.herd.tasks ≡ record { id = 2; version = 2; phase = Ready; machine = 1 } ∷ []) ×
+    ((after_five.agent 1).runs ≡ record { id = 2; ready = true } ∷ [])

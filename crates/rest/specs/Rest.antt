@@ -44,6 +44,7 @@ enough s = 3 + 2 * (length (keep is_alive s.tasks) + wanted_of s.jobs)
 
 -- THE PROMISE
 
+-- there is a machine
 abbrev pub SomeMachine : State → Type 0
 SomeMachine s = (m : Machine) × Memᴰ m s.machines
 

@@ -18,7 +18,7 @@ Obeyed w i = (os : List Order) → Memᴰ (Back i (w.agent i).life (w.agent i).n
 pub data Calm : List ℕ → World → World → Type 0 where
   -- an agent reports: by then it has obeyed what it was answered before
   sends : (w : World) (i : ℕ) → 0 < (w.agent i).life → Obeyed w i → Calm [] w (with_word (report_of i (w.agent i)) (with_agent i (reported (w.agent i)) w))
-  -- the herd hears an agent's last report, and answers it: by then all that was ordered there had been started and was ready
+  -- the herd hears an agent's last report, and answers it, so that the numbers of lives and reports aren't at their end: when it was sent, all that was ordered there had been started and was ready
   hears : (w : World) (i : ℕ) (xs : List Seen) (os : List Order) → Memᴰ (Up i (w.agent i).life (w.agent i).number xs) w.sent → ((x : Seen) → Memᴰ x xs → x.ready ≡ true) →
       (does (Report i (w.agent i).life (w.agent i).number xs) w.herd).reply ≡ Run (w.agent i).number os →
       Calm (i ∷ []) w (with_word (Back i (w.agent i).life (w.agent i).number os) (with_herd (does (Report i (w.agent i).life (w.agent i).number xs) w.herd).state w))

@@ -6,6 +6,7 @@ use Rattle.model.specs.State.{Job, Task, State}
 use Rattle.model.specs.Settle.{mine}
 use mathlib.Core.List.{Memᴰ}
 use Rattle.model.specs.World.{World, Reach}
+use Rattle.model.specs.Always.{Unlowered}
 use Rattle.rest.specs.Rounds.{Anyhow, Roomy, Round, Rounds}
 use Rattle.rest.specs.Rest.{AtRest, is_alive, SomeMachine, StaysAtRest}
 
@@ -40,3 +41,8 @@ ComesSooner =
 abbrev pub ApartWhereKept : Type 0
 ApartWhereKept =
     (w : World) → Reach w → ((j : Job) → Memᴰ j w.herd.jobs → length (mine j w.herd.tasks) ≤ j.most) → ((t : Task) → Memᴰ t w.herd.tasks → (j : Job) × Memᴰ j w.herd.jobs × (j.name ≡ t.job)) → Apart w.herd
+
+-- and so after every run in which no call did that to a job that is there
+abbrev pub ApartUnlowered : Type 0
+ApartUnlowered =
+    (w : World) (r : Reach w) → ((j : Job) → Memᴰ j w.herd.jobs → Unlowered j.name r) → ((t : Task) → Memᴰ t w.herd.tasks → (j : Job) × Memᴰ j w.herd.jobs × (j.name ≡ t.job)) → Apart w.herd

@@ -8,11 +8,12 @@
 ghost use Rattle.rest.specs.Example.{RestIsMet};
 ghost use Rattle.rest.specs.Listed.{RunsAsListed};
 ghost use Rattle.rest.specs.Rest.{ComesToRest, IsAnswered, RoundCanBe, RoundsCanBe};
-ghost use Rattle.rest.specs.Sooner.{ApartWhereKept, ComesSooner};
+ghost use Rattle.rest.specs.Sooner.{ApartUnlowered, ApartWhereKept, ComesSooner};
 ghost use Rattle.rest.specs.Unknown.{SparesUnknown};
 
 // If no call comes but reports and times, agents and the herd stay up, each machine reports at least
-// every 30,000 ms of told time, and what is ordered is ready when its machine reports,
+// every 30,000 ms of told time, what is ordered is ready when its machine reports, there is a machine,
+// task numbers are left, and some machine that is open always takes one more task of each job,
 // then after so many rounds each job has exactly its count of the present version, all ready,
 // nothing else is there, and no task changes from then on: from any world that can be reached,
 // whatever happened before.
@@ -33,6 +34,13 @@ pub fn comes_sooner() -> u8
 // The limit cannot bind where no job has more than its most and each task is of a job that is wanted.
 pub fn apart_where_kept() -> u8
     ensures { ApartWhereKept }
+{
+    0
+}
+
+// So it cannot after a run in which no call lowered a job's most, nor set a job anew over tasks of an ended one.
+pub fn apart_unlowered() -> u8
+    ensures { ApartUnlowered }
 {
     0
 }
