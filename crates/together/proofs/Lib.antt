@@ -1,2 +1,5 @@
 pub mod Listing
 pub mod Says
+pub mod Bearing
+pub mod Turning
+pub mod Ables
