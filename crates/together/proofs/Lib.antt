@@ -3,3 +3,5 @@ pub mod Says
 pub mod Bearing
 pub mod Turning
 pub mod Ables
+pub mod Coming
+pub mod Telling
