@@ -5,3 +5,4 @@ pub mod Turning
 pub mod Ables
 pub mod Coming
 pub mod Telling
+pub mod Now

@@ -1,6 +1,6 @@
 -- What really runs is told of by the model: each move is a step of it, or several, or none.
 -- Assumes nothing.
-use Rattle.std.proofs.Common.{◌≡◌, ℕ, ◌+◌, ◌<◌, ◌%◌, ◌⊎◌, List, [], ◌∷◌, sym, refl, ap, ◌∙◌, subst, inl, inr}
+use Rattle.std.proofs.Common.{◌≡◌, ℕ, ◌+◌, ◌<◌, ◌%◌, ◌⊎◌, List, [], ◌∷◌, Some, None, Option, sym, refl, ap, ◌∙◌, subst, inl, inr}
 use mathlib.Core.List.{Memᴰ}
 use Rattle.model.specs.State.{Machine, State, blank}
 use Rattle.model.specs.Calls.{Report, down}
@@ -15,7 +15,7 @@ use Rattle.model.proofs.Worlds.{inv_reach}
 use Rattle.agents.specs.Steps.{takes_in, report_line, last_number}
 use Rattle.serving.specs.Herd.{Held, state_in, Whole, Stands, Tells, Awake, herd_code}
 use Rattle.serving.proofs.Standing.{herd_right}
-use Rattle.together.specs.Real.{Body, up, Turn, Real, at, outset, set, Comes, Move, Came}
+use Rattle.together.specs.Real.{Body, up, Turn, Heard, heard, Real, at, outset, set, Comes, Move, Came}
 use Rattle.together.specs.Telling.{Carried, StandsFor, Bodied, Told, AllTold}
 use Rattle.together.proofs.Listing.{few_orders, orders_fit, machine_brief}
 use Rattle.together.proofs.Bearing.{carried_framed, carried_report}
@@ -31,13 +31,14 @@ listable_of : (x : Held) (s : State) → Stands x s → Listable s
 listable_of x s a = subst Listable (sym a.1) (λ k. (few_orders x a.0 k, orders_fit x a.0 k))
 
 -- with whatever else lines and darkness keep of the herd's state, H
-module _ (H : List Bytes → State → Type 0) (H_first : H [] blank) (H_says : (cs : List Bytes) (s : State) (b : Bytes) → Sound s → H cs s → H (b ∷ cs) (line_leaves core_kind b s)) (H_not : (cs : List Bytes) (s : State) (b : Bytes) → H cs s → H (b ∷ cs) s) (H_down : (cs : List Bytes) (s : State) → H cs s → H cs (down s)) where
+module _ (H : List Heard → State → Type 0) (H_first : H [] blank) (H_says : (cs : List Heard) (s : State) (b : Bytes) (r : Option Bytes) → (r ≡ None) ⊎ (r ≡ Some (answer_line core_kind b s)) → Sound s → H cs s → H (heard b r ∷ cs) (line_leaves core_kind b s))
+    (H_not : (cs : List Heard) (s : State) (b : Bytes) → H cs s → H (heard b None ∷ cs) s) (H_down : (cs : List Heard) (s : State) → H cs s → H cs (down s)) where
   pub record Has (w : Real) : Type 0 where
     pub told : Told w
     pub able : (i : ℕ) → AbleIn (w.body i)
     pub has : H w.came told.state
 
-  module _ (x : Held) (m : Memory) (g : ℕ → Body) (bs cs : List Bytes) (z : Has (at (awake x m) g bs cs)) (b : Bytes) (c : Comes g bs b) (d : Doing (record { reply : Bytes; mind : Held })) (way : herd_code.Does b x d) where
+  module _ (x : Held) (m : Memory) (g : ℕ → Body) (bs : List Bytes) (cs : List Heard) (z : Has (at (awake x m) g bs cs)) (b : Bytes) (c : Comes g bs b) (d : Doing (record { reply : Bytes; mind : Held })) (way : herd_code.Does b x d) where
     abbrev before : State
     before = z.told.state
 
@@ -50,7 +51,7 @@ module _ (H : List Bytes → State → Type 0) (H_first : H [] blank) (H_says : 
     sound : Sound before
     sound = (inv_reach z.told.reached).sound
 
-    told_answers : Has (at (awake (comes_to d m).mind (leaves d m)) g ((comes_to d m).reply ∷ bs) (b ∷ cs))
+    told_answers : Has (at (awake (comes_to d m).mind (leaves d m)) g ((comes_to d m).reply ∷ bs) (heard b (Some (comes_to d m).reply) ∷ cs))
     told_answers =
         let a = (herd_right.answers x m before b d z.told.stands way).1 in
         let l : Listable after = subst Listable a.1.1 (listable_of (comes_to d m).mind a.0 a.2.stands) in
@@ -65,15 +66,15 @@ module _ (H : List Bytes → State → Type 0) (H_first : H [] blank) (H_says : 
             lines = lined_cons (comes_to d m).reply bs next.words (subst (λ (y : Bytes). Carried (call_in y) next.words) (sym a.1.0) (carried_framed (tag_in b) (answer_bytes (bytes_say core_kind (call_in b) before).answer) next.words (next.reply l))) next.lines;
           };
           able = z.able;
-          has = H_says cs before b sound z.has;
+          has = H_says cs before b (Some (comes_to d m).reply) (inr (ap Some a.1.0)) sound z.has;
         }
 
-    told_cut : (n : Memory) → Tells n (down before) ⊎ ((r : Bytes) × (t : State) × ((r ≡ answer_line core_kind b before) × (t ≡ after)) × Tells n (down t)) → Has (at (asleep n) g bs (b ∷ cs))
+    told_cut : (n : Memory) → Tells n (down before) ⊎ ((r : Bytes) × (t : State) × ((r ≡ answer_line core_kind b before) × (t ≡ after)) × Tells n (down t)) → Has (at (asleep n) g bs (heard b None ∷ cs))
     told_cut n (inl t) =
         record {
           told = record { state = down before; agents = z.told.agents; words = z.told.words; reached = Reach.then z.told.reached (Step.falls (world before z.told.agents z.told.words)); bodies = z.told.bodies; stands = t; lines = z.told.lines };
           able = z.able;
-          has = H_down (b ∷ cs) before (H_not cs before b z.has);
+          has = H_down (heard b None ∷ cs) before (H_not cs before b z.has);
         }
     told_cut n (inr p) =
         record {
@@ -87,7 +88,7 @@ module _ (H : List Bytes → State → Type 0) (H_first : H [] blank) (H_says : 
             lines = next.lines;
           };
           able = z.able;
-          has = H_down (b ∷ cs) after (H_says cs before b sound z.has);
+          has = H_down (heard b None ∷ cs) after (H_says cs before b None (inl refl) sound z.has);
         }
 
   told_move : {w v : Real} → Has w → Move w v → Has v
@@ -143,4 +144,4 @@ module _ (H : List Bytes → State → Type 0) (H_first : H [] blank) (H_says : 
   has_come (Came.then c m) = told_move (has_come c) m
 
 pub all_told_lem : AllTold
-all_told_lem w c = (has_come (λ cs s. Unit {0}) tt (λ cs s b q h. tt) (λ cs s b h. tt) (λ cs s h. tt) c).told
+all_told_lem w c = (has_come (λ cs s. Unit {0}) tt (λ cs s b r k q h. tt) (λ cs s b h. tt) (λ cs s h. tt) c).told

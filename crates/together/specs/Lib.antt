@@ -1,2 +1,3 @@
 pub mod Real
 pub mod Telling
+pub mod Now

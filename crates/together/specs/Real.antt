@@ -1,6 +1,6 @@
 -- ALL AS IT RUNS: the herd as its code over kept words, cut wherever the power fails; calls, reports and answers as bytes on lines that lose, double, delay, reorder and mislead; and agents on their machines.
 -- Assumes nothing.
-use Rattle.std.specs.Prelude.{◌≡◌, ℕ, ◌+◌, ◌<◌, Bool, true, false, cond, not, T, List, [], ◌∷◌, ◌++◌, ◌==◌}
+use Rattle.std.specs.Prelude.{◌≡◌, ℕ, ◌+◌, ◌<◌, Bool, true, false, cond, not, T, List, [], ◌∷◌, ◌++◌, Some, None, Option, ◌==◌}
 use mathlib.Core.List.{Memᴰ}
 use Rattle.model.specs.Lists.{some}
 use Rattle.model.specs.Calls.{Seen, Call, SetJob, EndJob, AddMachine, Close, Reopen, Forget, Report, Tick, Show, Order}
@@ -40,14 +40,22 @@ pub data Turn : Body → Body → Type 0 where
   dies : (a : Agent) (before behind : List Seen) (x : Seen) → a.runs ≡ before ++ x ∷ behind → Turn (up a) (up (running (before ++ behind) a))
   dies_lost : (a : Agent) (before behind : List Seen) (x : Seen) → a.runs ≡ before ++ x ∷ behind → Turn (lost a) (lost (running (before ++ behind) a))
 
+-- a line that came to the herd, and its answer; none where the power failed in it
+pub record Heard : Type 0 where
+  pub line : Bytes
+  pub reply : Option Bytes
+
+abbrev pub heard : Bytes → Option Bytes → Heard
+heard b r = record { line = b; reply = r }
+
 -- THE WORLD. sent: all lines that an agent or the herd ever sent. came: all that came to the herd, the latest first, which nobody looks at.
 pub record Real : Type 0 where
   pub herd : Stand Held
   pub body : ℕ → Body
   pub sent : List Bytes
-  pub came : List Bytes
+  pub came : List Heard
 
-abbrev pub at : Stand Held → (ℕ → Body) → List Bytes → List Bytes → Real
+abbrev pub at : Stand Held → (ℕ → Body) → List Bytes → List Heard → Real
 at h g bs cs = record { herd = h; body = g; sent = bs; came = cs }
 
 abbrev pub outset : Real
@@ -77,19 +85,19 @@ pub data Comes (g : ℕ → Body) (bs : List Bytes) : Bytes → Type 0 where
 -- EVERY MOVE
 pub data Move : Real → Real → Type 0 where
   -- a line comes and is answered, in one of the ways of the herd's code; the answer goes on the lines
-  answers : (x : Held) (m : Memory) (g : ℕ → Body) (bs cs : List Bytes) (b : Bytes) (d : Doing (Said Bytes Held)) → Comes g bs b → herd_code.Does b x d →
-      Move (at (awake x m) g bs cs) (at (awake (comes_to d m).mind (leaves d m)) g ((comes_to d m).reply ∷ bs) (b ∷ cs))
+  answers : (x : Held) (m : Memory) (g : ℕ → Body) (bs : List Bytes) (cs : List Heard) (b : Bytes) (d : Doing (Said Bytes Held)) → Comes g bs b → herd_code.Does b x d →
+      Move (at (awake x m) g bs cs) (at (awake (comes_to d m).mind (leaves d m)) g ((comes_to d m).reply ∷ bs) (heard b (Some (comes_to d m).reply) ∷ cs))
   -- the power fails in it, after any number of its stores, also none or all of them; nothing is sent
-  is_cut : (x : Held) (m n : Memory) (g : ℕ → Body) (bs cs : List Bytes) (b : Bytes) (d : Doing (Said Bytes Held)) → Comes g bs b → herd_code.Does b x d → Halfway d m n → Move (at (awake x m) g bs cs) (at (asleep n) g bs (b ∷ cs))
+  is_cut : (x : Held) (m n : Memory) (g : ℕ → Body) (bs : List Bytes) (cs : List Heard) (b : Bytes) (d : Doing (Said Bytes Held)) → Comes g bs b → herd_code.Does b x d → Halfway d m n → Move (at (awake x m) g bs cs) (at (asleep n) g bs (heard b None ∷ cs))
   -- or between two lines; or while it wakes; or it wakes
-  darkens : (x : Held) (m : Memory) (g : ℕ → Body) (bs cs : List Bytes) → Move (at (awake x m) g bs cs) (at (asleep m) g bs cs)
-  is_cut_waking : (m n : Memory) (g : ℕ → Body) (bs cs : List Bytes) → Halfway herd_code.wakes m n → Move (at (asleep m) g bs cs) (at (asleep n) g bs cs)
-  wakes : (m : Memory) (g : ℕ → Body) (bs cs : List Bytes) → Move (at (asleep m) g bs cs) (at (awake (comes_to herd_code.wakes m) (leaves herd_code.wakes m)) g bs cs)
-  turns : (h : Stand Held) (g : ℕ → Body) (bs cs : List Bytes) (i : ℕ) (b : Body) → Turn (g i) b → Move (at h g bs cs) (at h (set i b g) bs cs)
+  darkens : (x : Held) (m : Memory) (g : ℕ → Body) (bs : List Bytes) (cs : List Heard) → Move (at (awake x m) g bs cs) (at (asleep m) g bs cs)
+  is_cut_waking : (m n : Memory) (g : ℕ → Body) (bs : List Bytes) (cs : List Heard) → Halfway herd_code.wakes m n → Move (at (asleep m) g bs cs) (at (asleep n) g bs cs)
+  wakes : (m : Memory) (g : ℕ → Body) (bs : List Bytes) (cs : List Heard) → Move (at (asleep m) g bs cs) (at (awake (comes_to herd_code.wakes m) (leaves herd_code.wakes m)) g bs cs)
+  turns : (h : Stand Held) (g : ℕ → Body) (bs : List Bytes) (cs : List Heard) (i : ℕ) (b : Body) → Turn (g i) b → Move (at h g bs cs) (at h (set i b g) bs cs)
   -- an agent reports: its machine's number is one of two bytes, and it has numbers of reports left
-  reports : (h : Stand Held) (g : ℕ → Body) (bs cs : List Bytes) (i : ℕ) (a : Agent) → g i ≡ up a → i < 65536 → a.number < last_number → Move (at h g bs cs) (at h (set i (up (reported a)) g) (report_line i a ∷ bs) cs)
+  reports : (h : Stand Held) (g : ℕ → Body) (bs : List Bytes) (cs : List Heard) (i : ℕ) (a : Agent) → g i ≡ up a → i < 65536 → a.number < last_number → Move (at h g bs cs) (at h (set i (up (reported a)) g) (report_line i a ∷ bs) cs)
   -- any line that was ever sent comes to any agent: it obeys the answer to its last report, and passes over whatever else comes
-  hears : (h : Stand Held) (g : ℕ → Body) (bs cs : List Bytes) (i : ℕ) (a : Agent) (b : Bytes) → g i ≡ up a → Memᴰ b bs → Move (at h g bs cs) (at h (set i (up (takes_in i (read_answer_lem (call_in b)) a)) g) bs cs)
+  hears : (h : Stand Held) (g : ℕ → Body) (bs : List Bytes) (cs : List Heard) (i : ℕ) (a : Agent) (b : Bytes) → g i ≡ up a → Memᴰ b bs → Move (at h g bs cs) (at h (set i (up (takes_in i (read_answer_lem (call_in b)) a)) g) bs cs)
 
 pub data Came : Real → Type 0 where
   begin : Came outset
