@@ -6,3 +6,6 @@ pub mod Ables
 pub mod Coming
 pub mod Telling
 pub mod Now
+pub mod Noted
+pub mod Counting
+pub mod Over

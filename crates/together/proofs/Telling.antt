@@ -30,15 +30,15 @@ low_of x s a m i = machine_brief x m (subst (λ (t : State). In m t.machines) a.
 listable_of : (x : Held) (s : State) → Stands x s → Listable s
 listable_of x s a = subst Listable (sym a.1) (λ k. (few_orders x a.0 k, orders_fit x a.0 k))
 
--- with whatever else lines and darkness keep of the herd's state, H
+-- what is told, with whatever else lines and darkness keep of the herd's state, H
+pub record Has (H : List Heard → State → Type 0) (w : Real) : Type 0 where
+  pub told : Told w
+  pub able : (i : ℕ) → AbleIn (w.body i)
+  pub has : H w.came told.state
+
 module _ (H : List Heard → State → Type 0) (H_first : H [] blank) (H_says : (cs : List Heard) (s : State) (b : Bytes) (r : Option Bytes) → (r ≡ None) ⊎ (r ≡ Some (answer_line core_kind b s)) → Sound s → H cs s → H (heard b r ∷ cs) (line_leaves core_kind b s))
     (H_not : (cs : List Heard) (s : State) (b : Bytes) → H cs s → H (heard b None ∷ cs) s) (H_down : (cs : List Heard) (s : State) → H cs s → H cs (down s)) where
-  pub record Has (w : Real) : Type 0 where
-    pub told : Told w
-    pub able : (i : ℕ) → AbleIn (w.body i)
-    pub has : H w.came told.state
-
-  module _ (x : Held) (m : Memory) (g : ℕ → Body) (bs : List Bytes) (cs : List Heard) (z : Has (at (awake x m) g bs cs)) (b : Bytes) (c : Comes g bs b) (d : Doing (record { reply : Bytes; mind : Held })) (way : herd_code.Does b x d) where
+  module _ (x : Held) (m : Memory) (g : ℕ → Body) (bs : List Bytes) (cs : List Heard) (z : Has H (at (awake x m) g bs cs)) (b : Bytes) (c : Comes g bs b) (d : Doing (record { reply : Bytes; mind : Held })) (way : herd_code.Does b x d) where
     abbrev before : State
     before = z.told.state
 
@@ -51,7 +51,7 @@ module _ (H : List Heard → State → Type 0) (H_first : H [] blank) (H_says : 
     sound : Sound before
     sound = (inv_reach z.told.reached).sound
 
-    told_answers : Has (at (awake (comes_to d m).mind (leaves d m)) g ((comes_to d m).reply ∷ bs) (heard b (Some (comes_to d m).reply) ∷ cs))
+    told_answers : Has H (at (awake (comes_to d m).mind (leaves d m)) g ((comes_to d m).reply ∷ bs) (heard b (Some (comes_to d m).reply) ∷ cs))
     told_answers =
         let a = (herd_right.answers x m before b d z.told.stands way).1 in
         let l : Listable after = subst Listable a.1.1 (listable_of (comes_to d m).mind a.0 a.2.stands) in
@@ -69,7 +69,7 @@ module _ (H : List Heard → State → Type 0) (H_first : H [] blank) (H_says : 
           has = H_says cs before b (Some (comes_to d m).reply) (inr (ap Some a.1.0)) sound z.has;
         }
 
-    told_cut : (n : Memory) → Tells n (down before) ⊎ ((r : Bytes) × (t : State) × ((r ≡ answer_line core_kind b before) × (t ≡ after)) × Tells n (down t)) → Has (at (asleep n) g bs (heard b None ∷ cs))
+    told_cut : (n : Memory) → Tells n (down before) ⊎ ((r : Bytes) × (t : State) × ((r ≡ answer_line core_kind b before) × (t ≡ after)) × Tells n (down t)) → Has H (at (asleep n) g bs (heard b None ∷ cs))
     told_cut n (inl t) =
         record {
           told = record { state = down before; agents = z.told.agents; words = z.told.words; reached = Reach.then z.told.reached (Step.falls (world before z.told.agents z.told.words)); bodies = z.told.bodies; stands = t; lines = z.told.lines };
@@ -91,7 +91,7 @@ module _ (H : List Heard → State → Type 0) (H_first : H [] blank) (H_says : 
           has = H_down (heard b None ∷ cs) after (H_says cs before b None (inl refl) sound z.has);
         }
 
-  told_move : {w v : Real} → Has w → Move w v → Has v
+  told_move : {w v : Real} → Has H w → Move w v → Has H v
   told_move z (Move.answers x m g bs cs b d c way) = told_answers x m g bs cs z b c d way
   told_move z (Move.is_cut x m n g bs cs b d c way h) = told_cut x m g bs cs z b c d way n (herd_right.cut_answering x m n z.told.state b d z.told.stands way h)
   told_move z (Move.darkens x m g bs cs) =
@@ -134,7 +134,7 @@ module _ (H : List Heard → State → Type 0) (H_first : H [] blank) (H_says : 
         has = z.has;
       }
 
-  pub has_come : {w : Real} → Came w → Has w
+  pub has_come : {w : Real} → Came w → Has H w
   has_come Came.begin =
       record {
         told = record { state = blank; agents = λ i. record { life = 0; number = 0; ordered = []; runs = [] }; words = []; reached = Reach.begin; bodies = λ i. record { number = refl; ordered = refl; runs = refl; life = inl refl }; stands = herd_right.at_first_lem; lines = λ b m. absurd (in_from m) };
