@@ -1,17 +1,16 @@
 -- What an agent has in memory goes into the bytes of its reports.
 -- Assumes nothing.
-use Rattle.std.proofs.Common.{◌≡◌, ℕ, ◌+◌, ◌<◌, ◌≤◌, Bool, true, false, cond, ◌&&◌, eqb, ltb, List, [], ◌∷◌, length, sym, refl, ap, ◌∙◌, subst, arith}
+use Rattle.std.proofs.Common.{◌≡◌, ℕ, ◌+◌, ◌<◌, Bool, true, false, cond, ◌&&◌, eqb, ltb, List, [], ◌∷◌, length, refl, arith}
 use mathlib.Core.List.{Memᴰ}
 use Rattle.std.proofs.lemmas.Bool.{and_parts, and_from, lt-ltb, ltb-true, cond_both}
 use Rattle.model.specs.Lists.{every}
 use Rattle.model.specs.Calls.{Seen, Report, Order}
-use Rattle.model.specs.World.{Agent, reported, may_run, running, obeys, is_ready_in}
+use Rattle.model.specs.World.{Agent, reported, may_run, running, obeys}
 use Rattle.model.specs.Wire.{Bytes, Read, garbled, meant, Answer, Refused, Done, Runs, Shown}
 use Rattle.model.specs.Answers.{read_answer_lem, runs_fit_lem, long, order_fits, spec_fits}
 use Rattle.model.specs.World.{Word}
-use Rattle.model.proofs.Lists.{In, in_from, every_at}
-use Rattle.agents.specs.LifeFile.{last_life}
-use Rattle.agents.specs.Steps.{takes_in, last_number}
+use Rattle.model.proofs.Lists.{in_from, every_at}
+use Rattle.agents.specs.Steps.{takes_in}
 use Rattle.wire.specs.Fits.{brief, long_id, call_fits}
 use Rattle.together.specs.Real.{Body, up, lost, off, fresh, Turn, set}
 use Rattle.together.specs.Telling.{Carried}
@@ -29,11 +28,11 @@ able_set g i b h q j = pick (eqb j i)
     pick true = h
     pick false = q j
 
-able_fresh : (d : ℕ) → d < last_life → Able (fresh (d + 1))
-able_fresh d l = record { alive = omega arith; life = omega (arith, l); number = omega arith; few = omega arith; ids = λ o m. absurd (in_from m) }
+able_fresh : (d : ℕ) → d + 1 < 18446744073709551616 → Able (fresh (d + 1))
+able_fresh d l = record { alive = omega arith; life = l; few = omega arith; ids = λ o m. absurd (in_from m) }
 
 able_running : (rs : List Seen) (a : Agent) → Able a → Able (running rs a)
-able_running rs a h = record { alive = h.alive; life = h.life; number = h.number; few = h.few; ids = h.ids }
+able_running rs a h = record { alive = h.alive; life = h.life; few = h.few; ids = h.ids }
 
 pub able_turned : {b c : Body} → Turn b c → AbleIn b → AbleIn c
 able_turned (Turn.ends a) h = tt
@@ -45,8 +44,8 @@ able_turned (Turn.becomes a before behind x b e) h = able_running _ a h
 able_turned (Turn.dies a before behind x e) h = able_running _ a h
 able_turned (Turn.dies_lost a before behind x e) h = tt
 
-pub able_reported : (a : Agent) → a.number < last_number → Able a → Able (reported a)
-able_reported a l h = record { alive = h.alive; life = h.life; number = omega (arith, l); few = h.few; ids = h.ids }
+pub able_reported : (a : Agent) → Able a → Able (reported a)
+able_reported a h = record { alive = h.alive; life = h.life; few = h.few; ids = h.ids }
 
 -- orders that were read are in range
 able_obeys : (i l n : ℕ) (os : List Order) (a : Agent) → runs_fit_lem i l n os ≡ true → Able a → Able (obeys os a)
@@ -55,7 +54,6 @@ able_obeys i l n os a t h =
     record {
       alive = h.alive;
       life = h.life;
-      number = h.number;
       few = ltb-true _ _ q.1;
       ids = λ o m. let e = and_parts (long o.id) (spec_fits o.spec) (every_at order_fits os p.1 o (in_from m)) in ltb-true _ _ e.0;
     }
@@ -78,8 +76,8 @@ unfolding may_run every
 listed_long xs [] h = refl
 listed_long xs (o ∷ os) h = and_from _ _ (lt-ltb o.id 18446744073709551616 (h o (Memᴰ.head refl))) (listed_long xs os (λ p m. h p (Memᴰ.tail m)))
 
-pub report_fits : (i : ℕ) (a : Agent) → i < 65536 → a.number < last_number → Able a → call_fits (Report i a.life (a.number + 1) (may_run a.runs a.ordered)) ≡ true
+pub report_fits : (i : ℕ) (a : Agent) → i < 65536 → a.number + 1 < 18446744073709551616 → Able a → call_fits (Report i a.life (a.number + 1) (may_run a.runs a.ordered)) ≡ true
 report_fits i a b l h =
     let xs = may_run a.runs a.ordered in let e = listed_length a.runs a.ordered in let f = h.few in let v = h.life in
     and_from (ltb (length xs) 65536) (brief i && long a.life && long (a.number + 1) && every long_id xs) (lt-ltb (length xs) 65536 (omega arith))
-    (and_from (brief i && long a.life && long (a.number + 1)) (every long_id xs) (and_from (brief i && long a.life) (long (a.number + 1)) (and_from (brief i) (long a.life) (lt-ltb i 65536 b) (lt-ltb a.life 18446744073709551616 (omega (arith, v)))) (lt-ltb (a.number + 1) 18446744073709551616 (omega (arith, l)))) (listed_long a.runs a.ordered h.ids))
+    (and_from (brief i && long a.life && long (a.number + 1)) (every long_id xs) (and_from (brief i && long a.life) (long (a.number + 1)) (and_from (brief i) (long a.life) (lt-ltb i 65536 b) (lt-ltb a.life 18446744073709551616 v)) (lt-ltb (a.number + 1) 18446744073709551616 l)) (listed_long a.runs a.ordered h.ids))

@@ -1,17 +1,16 @@
 -- What lines bear: a line that the herd or an agent writes says what it was written to say, or nothing.
 -- Assumes nothing.
-use Rattle.std.proofs.Common.{◌≡◌, ℕ, ◌+◌, ◌≤◌, ◌<◌, ◌%◌, Bool, true, false, cond, ◌&&◌, eqb, ltb, ◌⊎◌, List, [], ◌∷◌, ◌++◌, length, drop, sym, refl, ap, ◌∙◌, subst, inl, inr, arith, le_trans}
+use Rattle.std.proofs.Common.{◌≡◌, ℕ, ◌+◌, ◌≤◌, Bool, true, false, eqb, ltb, ◌⊎◌, List, [], ◌∷◌, ◌++◌, length, drop, sym, refl, ap, ◌∙◌, subst, inl, inr, arith}
 use mathlib.Core.List.{Memᴰ}
-use Rattle.std.proofs.lemmas.Bool.{le-ltb, lt-ltb, and_from, true≢false}
-use Rattle.model.specs.Lists.{every}
-use Rattle.model.specs.Calls.{Seen, Call, Forget, Report, Order}
+use Rattle.std.proofs.lemmas.Bool.{le-ltb, true≢false}
+use Rattle.model.specs.Calls.{Seen, Forget, Report, Order}
 use Rattle.model.specs.World.{Word, Up, Back}
-use Rattle.model.specs.Wire.{Bytes, Read, garbled, meant, bytes_of, field, read_call, kind_of, call_bytes, Answer, Refused, Done, Runs, Shown, answer_bytes}
-use Rattle.model.specs.Answers.{read_answer_lem, is_runs, long, order_fits, runs_fit_lem}
+use Rattle.model.specs.Wire.{Bytes, Read, garbled, meant, bytes_of, field, read_call, call_bytes, Answer, Refused, Done, Runs, Shown, answer_bytes}
+use Rattle.model.specs.Answers.{read_answer_lem, is_runs, runs_fit_lem}
 use Rattle.model.specs.Lines.{framed, call_in, kind_in}
 use Rattle.model.proofs.Lists.{never}
 use Rattle.lines.proofs.Saying.{kind_read}
-use Rattle.wire.specs.Fits.{brief, call_fits}
+use Rattle.wire.specs.Fits.{call_fits}
 use Rattle.wire.proofs.Fields.{drop_front, drop_next, length_front}
 use Rattle.wire.proofs.AnswersBack.{runs_back_lem, no_other_runs_lem, no_report_runs}
 use Rattle.wire.proofs.CallsBack.{calls_back}

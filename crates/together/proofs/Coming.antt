@@ -1,6 +1,6 @@
 -- A line comes to the herd: in the other world its call is said, or nothing is; and what is answered bears what was said there.
 -- Assumes nothing.
-use Rattle.std.proofs.Common.{◌≡◌, ℕ, ◌+◌, ◌<◌, ◌≤◌, Bool, true, false, cond, ◌&&◌, ltb, ◌⊎◌, List, [], ◌∷◌, length, sym, refl, ap, ◌∙◌, subst, subst₂, inl, inr, arith}
+use Rattle.std.proofs.Common.{◌≡◌, ℕ, ◌<◌, true, false, ◌&&◌, ltb, ◌⊎◌, List, ◌∷◌, length, sym, refl, ap, ◌∙◌, subst, subst₂, inl, inr, arith}
 use mathlib.Core.List.{Memᴰ}
 use Rattle.std.proofs.lemmas.Bool.{and_from, lt-ltb}
 use Rattle.model.specs.Lists.{every, keep}
@@ -12,9 +12,9 @@ use Rattle.model.specs.Answers.{long, order_fits, runs_fit_lem}
 use Rattle.model.specs.Lines.{core_kind, call_in, Said, bytes_say}
 use Rattle.model.proofs.Lists.{never, In, in_from, in_to, to_true}
 use Rattle.wire.specs.Fits.{brief}
-use Rattle.together.specs.Real.{Body, off, Comes, from_person}
+use Rattle.together.specs.Real.{Body, Comes, from_person}
 use Rattle.together.specs.Telling.{Carried, Rested, Bodied}
-use Rattle.together.proofs.Says.{Outcome, quiet, done, outcome, not_runs, no_run, no_run_forget, Taken, taken}
+use Rattle.together.proofs.Says.{Outcome, outcome, not_runs, no_run, no_run_forget, Taken, taken}
 use Rattle.together.proofs.Bearing.{carried_more, carried_answer, carried_runs}
 use Rattle.together.proofs.Turning.{world, Same}
 

@@ -1,6 +1,6 @@
 -- What a state that words stand for can list in an answer to a report: its numbers are in range, since words are. (The steps are those of the answers of the herd, said here of the orders alone.)
 -- Assumes nothing.
-use Rattle.std.proofs.Common.{◌≡◌, ℕ, zero, suc, ◌+◌, ◌*◌, ◌%◌, ◌<◌, ◌≤◌, min, Bool, true, false, cond, ◌&&◌, eqb, ltb, List, [], ◌∷◌, ◌++◌, map, length, get_or, take, drop, refl, ap, arith, length-append, length-take, get_or-drop, inl, inr, subst, sym}
+use Rattle.std.proofs.Common.{◌≡◌, ℕ, zero, suc, ◌+◌, ◌*◌, ◌%◌, ◌<◌, ◌≤◌, min, Bool, true, false, cond, ◌&&◌, eqb, List, [], ◌∷◌, ◌++◌, map, length, get_or, take, drop, refl, arith, length-append, length-take, get_or-drop, inl, inr, subst, sym}
 use Rattle.std.proofs.lemmas.Bool.{and_parts, lt-ltb, le-leb}
 use Rattle.model.specs.Lists.{every, keep}
 use Rattle.model.specs.State.{Machine, Task, is_ending, on_machine}
@@ -8,7 +8,7 @@ use Rattle.model.specs.Calls.{small, orders}
 use Rattle.model.specs.Answers.{long, spec_fits, order_fits}
 use Rattle.model.proofs.Lists.{In, in_append}
 use Rattle.jobs.specs.Rows.{span}
-use Rattle.jobs.specs.Tables.{low, spec_from_lem, task_from, task_at, task_row_lem, task_rows_lem, tasks_of, machine_from, machine_row_lem, machine_at, machine_rows_lem, machines_of}
+use Rattle.jobs.specs.Tables.{low, spec_from_lem, task_from, task_at, task_row_lem, task_rows_lem, tasks_of, machine_from, machine_row_lem, machine_at, machine_rows_lem}
 use Rattle.wire.specs.Fits.{brief}
 use Rattle.serving.specs.Herd.{Held, state_in, Whole}
 

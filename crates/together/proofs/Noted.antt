@@ -1,16 +1,15 @@
 -- Each job was set as it is by a line that came; and a job of which there are tasks is there, if no line ended it.
 -- Assumes nothing.
 use Rattle.std.proofs.Common.{◌≡◌, ℕ, Bool, true, false, cond, not, ◌⊎◌, List, [], ◌∷◌, ◌++◌, Some, None, Option, sym, refl, ap, ◌∙◌, subst, inl, inr}
-use mathlib.Core.List.{Memᴰ}
 use Rattle.std.proofs.lemmas.Bool.{cond_both}
 use Rattle.model.specs.Lists.{keep, find, change, none}
-use Rattle.model.specs.State.{Name, Spec, Job, Task, State, is_job, on_machine}
+use Rattle.model.specs.State.{Name, Job, Task, State, is_job, on_machine}
 use Rattle.model.specs.Settle.{fresh, more, settle}
 use Rattle.model.specs.Calls.{Call, SetJob, EndJob, AddMachine, Close, Reopen, Forget, Report, Tick, Show, Order, Line, Reply, No, Yes, Run, Lines, new_job, reset_job_lem, later, does, down}
-use Rattle.model.specs.Wire.{Bytes, Read, garbled, meant, read_call, kind_of, Answer, Refused, Done, Runs, Shown, answer_bytes, answer_to}
+use Rattle.model.specs.Wire.{Bytes, garbled, meant, kind_of, Answer, Refused, Done, Runs, Shown, answer_bytes, answer_to}
 use Rattle.model.specs.Answers.{read_answer_lem}
 use Rattle.model.specs.Lines.{core_kind, framed, tag_in, call_in, answer_line, bytes_say, line_leaves}
-use Rattle.model.specs.Always.{entered, Raised, Spares}
+use Rattle.model.specs.Always.{entered, Spares}
 use Rattle.model.proofs.Lists.{never, bool, In, in_from, in_to, in_end, in_left, in_keep, keep_in, Pass, pass_from, pass_change}
 use Rattle.model.proofs.Tasks.{same_eq}
 use Rattle.model.proofs.Settles.{unplaced_alike, Fine}

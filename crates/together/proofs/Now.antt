@@ -5,11 +5,11 @@ use Rattle.model.specs.Promise.{seen_in}
 use mathlib.Core.List.{Memᴰ}
 use Rattle.model.specs.State.{Machine, State}
 use Rattle.model.specs.Settle.{settle}
-use Rattle.model.specs.Calls.{Call, Seen, does, down}
+use Rattle.model.specs.Calls.{Seen, does, down}
 use Rattle.model.specs.World.{Agent, World, Reach}
-use Rattle.model.specs.Memory.{Memory, Doing, comes_to, leaves, Halfway, Stand, asleep, awake}
-use Rattle.model.specs.Wire.{Bytes, meant, read_call}
-use Rattle.model.specs.Lines.{core_kind, call_in, Said, bytes_say, answer_line, line_leaves}
+use Rattle.model.specs.Memory.{Memory, Doing, comes_to, Halfway, Stand, asleep, awake}
+use Rattle.model.specs.Wire.{Bytes}
+use Rattle.model.specs.Lines.{core_kind, call_in, bytes_say, answer_line, line_leaves}
 use Rattle.model.specs.Always.{Within, entered, TakesFew, NoneWaits}
 use Rattle.model.proofs.Worlds.{never_twice_lem}
 use Rattle.model.proofs.Ordered.{fits_everywhere_lem}
@@ -17,10 +17,10 @@ use Rattle.model.proofs.Replies.{always_takes_few_lem}
 use Rattle.model.proofs.Waits.{never_waits_lem}
 use Rattle.serving.specs.Herd.{Held, state_in, Tells, Awake, herd_code}
 use Rattle.serving.proofs.Standing.{herd_right}
-use Rattle.together.specs.Real.{Body, up, lost, off, Real, at, Move, Came}
+use Rattle.together.specs.Real.{Body, up, lost, off, Move}
 use Rattle.together.specs.Telling.{StandsFor, Bodied, Told}
-use Rattle.together.specs.Now.{state_now, herd_state, agent_in, runs_on, RunsFit, RunsOnce, Passes, Takes, TakesFewAlways, NeverWaits, Stays, AnswersStand, FitsIn, AlwaysFits}
-use Rattle.together.proofs.Says.{Outcome, quiet, done, outcome}
+use Rattle.together.specs.Now.{state_now, herd_state, agent_in, RunsFit, RunsOnce, Passes, TakesFewAlways, NeverWaits, AnswersStand, FitsIn, AlwaysFits}
+use Rattle.together.proofs.Says.{Outcome, outcome}
 use Rattle.together.proofs.Telling.{all_told_lem}
 
 -- the state that is told of is the one that the words stand for

@@ -1,18 +1,18 @@
 -- Of no job is there more than its most, nor does more run.
 -- Assumes nothing.
-use Rattle.std.proofs.Common.{◌≡◌, ℕ, ◌≤◌, List, [], ◌∷◌, ◌++◌, Option, length, T, sym, refl, subst, le_trans}
+use Rattle.std.proofs.Common.{◌≡◌, ℕ, ◌≤◌, List, [], ◌∷◌, ◌++◌, length, T, sym, refl, subst, le_trans}
 use Rattle.model.specs.Lists.{keep}
-use Rattle.model.specs.State.{Name, Job, Task, State, blank}
+use Rattle.model.specs.State.{Name, State}
 use Rattle.model.specs.Settle.{mine}
 use Rattle.model.specs.Calls.{Seen}
-use Rattle.model.specs.World.{World, Reach}
+use Rattle.model.specs.World.{World}
 use Rattle.model.specs.Always as model
 use Rattle.model.specs.Always.{is_of, differ}
 use Rattle.model.proofs.Lists.{In, to_true, in_from}
 use Rattle.model.proofs.Worlds.{inv_reach}
 use Rattle.together.specs.Real.{Heard, Real, Came}
 use Rattle.together.specs.Telling.{Told}
-use Rattle.together.specs.Now.{herd_state, runs_on, running_of, NeverOver}
+use Rattle.together.specs.Now.{herd_state, running_of, NeverOver}
 use Rattle.together.proofs.Telling.{Has, has_come}
 use Rattle.together.proofs.Now.{told_is, runs_same}
 use Rattle.together.proofs.Noted.{Noted, noted_more, noted_down, noted_says}

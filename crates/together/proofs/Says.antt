@@ -1,13 +1,13 @@
 -- What a line is answered and what it leaves: a refusal and nothing, or what its call says.
 -- Assumes nothing.
-use Rattle.std.proofs.Common.{◌≡◌, ℕ, ◌≤◌, Bool, true, false, cond, not, ◌&&◌, ◌||◌, eqb, ltb, ◌⊎◌, List, [], ◌∷◌, length, sym, refl, ap, ◌∙◌, subst, inl, inr, arith}
+use Rattle.std.proofs.Common.{◌≡◌, ℕ, ◌≤◌, Bool, true, false, cond, not, ◌&&◌, ◌||◌, eqb, ltb, ◌⊎◌, List, length, sym, refl, ap, ◌∙◌, subst, inl, inr}
 use Rattle.std.proofs.lemmas.Bool.{cond_both, or_parts, ltb-false, eqb-true}
-use Rattle.model.specs.Lists.{keep, find}
+use Rattle.model.specs.Lists.{keep}
 use Rattle.model.specs.State.{Machine, State, is_machine, on_machine}
 use Rattle.model.specs.Settle.{settle}
 use Rattle.model.specs.Calls.{Seen, Call, SetJob, EndJob, AddMachine, Close, Reopen, Forget, Report, Tick, Show, Order, Reply, No, Yes, Run, Lines, Out, orders, heard, does}
-use Rattle.model.specs.Promise.{Answers, says_so, not_yet}
-use Rattle.model.specs.Wire.{Bytes, Read, garbled, meant, read_call, kind_of, Answer, Refused, answer_to}
+use Rattle.model.specs.Promise.{Answers}
+use Rattle.model.specs.Wire.{Bytes, Read, garbled, meant, read_call, kind_of, Refused, answer_to}
 use Rattle.model.specs.Answers.{is_runs}
 use Rattle.model.specs.Lines.{core_kind, kind_in, is_known, Said, refuses, call_says, bytes_say}
 use Rattle.model.proofs.Lists.{never, In, find_in, to_true}

@@ -1,10 +1,10 @@
 -- What really runs is told of by the model: each move is a step of it, or several, or none.
 -- Assumes nothing.
-use Rattle.std.proofs.Common.{◌≡◌, ℕ, ◌+◌, ◌<◌, ◌%◌, ◌⊎◌, List, [], ◌∷◌, Some, None, Option, sym, refl, ap, ◌∙◌, subst, inl, inr}
+use Rattle.std.proofs.Common.{◌≡◌, ℕ, ◌+◌, ◌<◌, ◌%◌, ◌⊎◌, List, [], ◌∷◌, Some, None, Option, sym, refl, ap, subst, inl, inr}
 use mathlib.Core.List.{Memᴰ}
 use Rattle.model.specs.State.{Machine, State, blank}
 use Rattle.model.specs.Calls.{Report, down}
-use Rattle.model.specs.World.{Agent, Word, Up, World, reported, may_run, put, report_of, Step, Reach}
+use Rattle.model.specs.World.{Agent, reported, may_run, put, report_of, Step, Reach}
 use Rattle.model.specs.Memory.{Memory, Doing, comes_to, leaves, asleep, awake}
 use Rattle.model.specs.Wire.{Bytes, call_bytes, answer_bytes}
 use Rattle.model.specs.Answers.{read_answer_lem}
@@ -12,14 +12,14 @@ use Rattle.model.specs.Lines.{core_kind, tag_in, call_in, bytes_say, answer_line
 use Rattle.model.proofs.Lists.{In, in_from}
 use Rattle.model.proofs.Keeps.{Sound}
 use Rattle.model.proofs.Worlds.{inv_reach}
-use Rattle.agents.specs.Steps.{takes_in, report_line, last_number}
-use Rattle.serving.specs.Herd.{Held, state_in, Whole, Stands, Tells, Awake, herd_code}
+use Rattle.agents.specs.Steps.{takes_in, report_line}
+use Rattle.serving.specs.Herd.{Held, Stands, Tells, Awake, herd_code}
 use Rattle.serving.proofs.Standing.{herd_right}
-use Rattle.together.specs.Real.{Body, up, Turn, Heard, heard, Real, at, outset, set, Comes, Move, Came}
-use Rattle.together.specs.Telling.{Carried, StandsFor, Bodied, Told, AllTold}
+use Rattle.together.specs.Real.{Body, up, Heard, heard, Real, at, Comes, Move, Came}
+use Rattle.together.specs.Telling.{Carried, Bodied, Told, AllTold}
 use Rattle.together.proofs.Listing.{few_orders, orders_fit, machine_brief}
 use Rattle.together.proofs.Bearing.{carried_framed, carried_report}
-use Rattle.together.proofs.Turning.{world, Same, same_put, After, turned, heard_by}
+use Rattle.together.proofs.Turning.{world, same_put, turned, heard_by}
 use Rattle.together.proofs.Ables.{AbleIn, able_set, able_turned, able_reported, able_takes, report_fits}
 use Rattle.together.proofs.Coming.{Lined, lined_more, lined_cons, Listable, Next, comes}
 
@@ -115,7 +115,7 @@ module _ (H : List Heard → State → Type 0) (H_first : H [] blank) (H_says : 
           lines = subst (λ (y : Agent). Lined (report_line i a ∷ bs) (report_of i y ∷ t.words)) (sym e)
           (lined_cons (report_line i a) bs _ (carried_framed ((a.number + 1) % 4294967296) (call_bytes (Report i a.life (a.number + 1) (may_run a.runs a.ordered))) _ (carried_report i a.life (a.number + 1) (may_run a.runs a.ordered) _ (report_fits i a p q k) (Memᴰ.head refl))) (lined_more bs (report_of i a) t.words t.lines));
         };
-        able = able_set g i (up (reported a)) (able_reported a q k) z.able;
+        able = able_set g i (up (reported a)) (able_reported a k) z.able;
         has = z.has;
       }
   told_move z (Move.hears h g bs cs i a b o m) =

@@ -1,19 +1,18 @@
 -- Machines alone: what happens on one, its agent in the other world does, or has done, or does twice.
 -- Assumes nothing.
-use Rattle.std.proofs.Common.{◌≡◌, ℕ, ◌+◌, ◌<◌, ◌≤◌, Bool, true, false, cond, not, ◌&&◌, T, eqb, ◌⊎◌, List, [], ◌∷◌, ◌++◌, length, sym, refl, ap, ◌∙◌, subst, inl, inr, arith}
+use Rattle.std.proofs.Common.{◌≡◌, ℕ, ◌+◌, ◌<◌, Bool, true, false, cond, not, ◌&&◌, T, eqb, ◌⊎◌, List, ◌∷◌, ◌++◌, length, sym, refl, ap, ◌∙◌, subst, inl, inr}
 use mathlib.Core.Path.{fun_ext}
 use mathlib.Core.List.{Memᴰ}
 use Rattle.std.proofs.lemmas.Bool.{eqb-true, and_parts, cond_both}
 use Rattle.model.specs.Lists.{some}
 use Rattle.model.specs.State.{State}
-use Rattle.model.specs.Calls.{Seen, Order}
+use Rattle.model.specs.Calls.{Order}
 use Rattle.model.specs.World.{Agent, Word, Back, World, put, is_seen, running, risen, obeys, Step, Reach}
 use Rattle.model.specs.Wire.{Bytes, Read, garbled, meant, Answer, Refused, Done, Runs, Shown}
 use Rattle.model.specs.Answers.{read_answer_lem}
-use Rattle.agents.specs.LifeFile.{last_life}
 use Rattle.agents.specs.Steps.{takes_in}
-use Rattle.together.specs.Real.{Body, up, lost, off, fresh, Turn, set}
-use Rattle.together.specs.Telling.{Carried, Rested, Bodied}
+use Rattle.together.specs.Real.{Body, up, off, fresh, Turn, set}
+use Rattle.together.specs.Telling.{Carried, Bodied}
 
 abbrev pub world : State → (ℕ → Agent) → List Word → World
 world s f ws = record { herd = s; agent = f; sent = ws }
@@ -78,7 +77,6 @@ heard_by s f ws r i bs c (meant (Runs j l n os)) e = cond_both (eqb j i && eqb l
 -- WHAT AN AGENT THAT IS UP has in its memory fits into the bytes of a report
 pub record Able (a : Agent) : Type 0 where
   pub alive : 0 < a.life
-  pub life : a.life ≤ last_life
-  pub number : a.number ≤ 4611686018427387904
+  pub life : a.life < 18446744073709551616
   pub few : length a.ordered < 65536
   pub ids : (o : Order) → Memᴰ o a.ordered → o.id < 18446744073709551616

@@ -3,11 +3,11 @@
 use Rattle.std.specs.Prelude.{◌≡◌, ℕ, ◌≤◌, Bool, true, not, T, ◌⊎◌, List, [], ◌∷◌, ◌++◌, length, Some, None, Option, ◌≢◌}
 use mathlib.Core.List.{Memᴰ}
 use Rattle.model.specs.Lists.{keep}
-use Rattle.model.specs.State.{Name, Machine, Spec, Job, Task, State}
+use Rattle.model.specs.State.{Name, Machine, Spec, Job, State}
 use Rattle.model.specs.Settle.{mine, settle}
 use Rattle.model.specs.Calls.{Seen, Call, SetJob, EndJob, down}
 use Rattle.model.specs.World.{Agent}
-use Rattle.model.specs.Memory.{Memory, comes_to, leaves, Fits, Doing, Stand, asleep, awake}
+use Rattle.model.specs.Memory.{comes_to, Fits, Doing, Stand, asleep, awake}
 use Rattle.model.specs.Wire.{Bytes, meant, read_call, kind_of, Refused}
 use Rattle.model.specs.Answers.{read_answer_lem}
 use Rattle.model.specs.Lines.{core_kind, call_in, answer_line, line_leaves}

@@ -10,8 +10,7 @@ use Rattle.model.specs.Wire.{Bytes, meant, read_call}
 use Rattle.model.specs.Lines.{call_in}
 use Rattle.model.specs.Answers.{read_answer_lem}
 use Rattle.device.specs.Service.{Said}
-use Rattle.agents.specs.LifeFile.{last_life}
-use Rattle.agents.specs.Steps.{takes_in, report_line, last_number}
+use Rattle.agents.specs.Steps.{takes_in, report_line}
 use Rattle.serving.specs.Herd.{Held, herd_code}
 
 -- A MACHINE AND ITS AGENT. up: the agent runs, and its file has its life. lost: the agent's program is gone, and what it ran may still run.
@@ -31,9 +30,9 @@ pub data Turn : Body → Body → Type 0 where
   ends : (a : Agent) → Turn (up a) (lost a)
   -- what it ran is gone too: the machine fell, or whoever starts it anew ended that first
   clears : (a : Agent) → Turn (lost a) (off a.life)
-  -- it comes up: its file has the next life before it says anything; or it is cut when it has written that
-  comes_up : (d : ℕ) → d < last_life → Turn (off d) (up (fresh (d + 1)))
-  is_cut_up : (d : ℕ) → d < last_life → Turn (off d) (off (d + 1))
+  -- it comes up, with a life of eight bytes: its file has that before it says anything; or it is cut when it has written that
+  comes_up : (d : ℕ) → d + 1 < 18446744073709551616 → Turn (off d) (up (fresh (d + 1)))
+  is_cut_up : (d : ℕ) → d + 1 < 18446744073709551616 → Turn (off d) (off (d + 1))
   -- what is ordered and doesn't run is started, one after the other; what runs becomes ready, or is so no more; it dies, or is stopped
   starts : (a : Agent) (o : Order) → Memᴰ o a.ordered → T (not (some (is_seen o.id) a.runs)) → Turn (up a) (up (running (record { id = o.id; ready = false } ∷ a.runs) a))
   becomes : (a : Agent) (before behind : List Seen) (x : Seen) (b : Bool) → a.runs ≡ before ++ x ∷ behind → Turn (up a) (up (running (before ++ record { id = x.id; ready = b } ∷ behind) a))
@@ -94,8 +93,8 @@ pub data Move : Real → Real → Type 0 where
   is_cut_waking : (m n : Memory) (g : ℕ → Body) (bs : List Bytes) (cs : List Heard) → Halfway herd_code.wakes m n → Move (at (asleep m) g bs cs) (at (asleep n) g bs cs)
   wakes : (m : Memory) (g : ℕ → Body) (bs : List Bytes) (cs : List Heard) → Move (at (asleep m) g bs cs) (at (awake (comes_to herd_code.wakes m) (leaves herd_code.wakes m)) g bs cs)
   turns : (h : Stand Held) (g : ℕ → Body) (bs : List Bytes) (cs : List Heard) (i : ℕ) (b : Body) → Turn (g i) b → Move (at h g bs cs) (at h (set i b g) bs cs)
-  -- an agent reports: its machine's number is one of two bytes, and it has numbers of reports left
-  reports : (h : Stand Held) (g : ℕ → Body) (bs : List Bytes) (cs : List Heard) (i : ℕ) (a : Agent) → g i ≡ up a → i < 65536 → a.number < last_number → Move (at h g bs cs) (at h (set i (up (reported a)) g) (report_line i a ∷ bs) cs)
+  -- an agent reports, of its machine's number (two bytes) and the report's (eight)
+  reports : (h : Stand Held) (g : ℕ → Body) (bs : List Bytes) (cs : List Heard) (i : ℕ) (a : Agent) → g i ≡ up a → i < 65536 → a.number + 1 < 18446744073709551616 → Move (at h g bs cs) (at h (set i (up (reported a)) g) (report_line i a ∷ bs) cs)
   -- any line that was ever sent comes to any agent: it obeys the answer to its last report, and passes over whatever else comes
   hears : (h : Stand Held) (g : ℕ → Body) (bs : List Bytes) (cs : List Heard) (i : ℕ) (a : Agent) (b : Bytes) → g i ≡ up a → Memᴰ b bs → Move (at h g bs cs) (at h (set i (up (takes_in i (read_answer_lem (call_in b)) a)) g) bs cs)
 

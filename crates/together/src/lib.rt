@@ -1,4 +1,4 @@
 // All together as it runs: the herd's code over kept words, lines of bytes, and agents. What the model promises holds of that.
 #![tactic(auto)]
 
-pub mod told;
+pub mod theorems;

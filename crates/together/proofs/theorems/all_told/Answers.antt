@@ -1,4 +1,4 @@
-use Rattle.together.proofs.told.all_told.Goals as goal
+use Rattle.together.proofs.theorems.all_told.Goals as goal
 use Rattle.together.proofs.Telling.{all_told_lem}
 
 pub returns : goal.returns
