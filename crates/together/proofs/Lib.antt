@@ -9,3 +9,5 @@ pub mod Now
 pub mod Noted
 pub mod Counting
 pub mod Over
+pub mod Moving
+pub mod All

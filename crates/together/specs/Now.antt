@@ -15,6 +15,7 @@ use Rattle.model.specs.Promise.{seen_in}
 use Rattle.model.specs.Always.{Within, is_of, differ, entered, TakesFew, NoneWaits}
 use Rattle.device.specs.Service.{Said}
 use Rattle.serving.specs.Herd.{Held, state_in, herd_code}
+use Rattle.together.specs.Telling.{AllTold}
 use Rattle.together.specs.Real.{Body, up, lost, off, fresh, Heard, Real, Move, Came}
 
 -- THE HERD'S STATE: what its mind stands for; and in the dark, that of the mind with which it would wake from its words
@@ -118,3 +119,14 @@ FitsIn (awake x m) = (b : Bytes) (d : Doing (Said Bytes Held)) → herd_code.Doe
 
 abbrev pub AlwaysFits : Type 0
 AlwaysFits = (w : Real) → Came w → FitsIn w.herd
+
+-- ALL OF IT
+pub record HoldsAlways : Type 0 where
+  pub told : AllTold
+  pub fits : RunsFit
+  pub once : RunsOnce
+  pub over : NeverOver
+  pub takes : TakesFewAlways
+  pub waits : NeverWaits
+  pub stands : AnswersStand
+  pub within : AlwaysFits
