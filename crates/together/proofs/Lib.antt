@@ -11,3 +11,4 @@ pub mod Counting
 pub mod Over
 pub mod Moving
 pub mod All
+pub mod Contracts

@@ -1,7 +1,6 @@
 -- The moves of the programs, as moves of the world as it runs.
 -- Assumes nothing.
-use Rattle.std.proofs.Common.{◌≡◌, ℕ, ◌+◌, ◌<◌, Bool, true, false, cond, not, ◌&&◌, T, eqb, List, [], ◌∷◌, Some, None, Ok, Err, Result, Vec, vec_items, MatchResult, sym, refl, ap, ◌∙◌, subst, subst₂}
-use Rattle.std.specs.declared.alloc.Global.{Global}
+use Rattle.std.proofs.Common.{◌≡◌, ℕ, ◌+◌, ◌<◌, Bool, true, false, cond, not, ◌&&◌, eqb, List, [], ◌∷◌, Some, Result, sym, refl, ap, ◌∙◌, subst, subst₂}
 use Rattle.std.proofs.lemmas.Result.{MatchResult-weaker}
 use mathlib.Core.Path.{fun_ext}
 use mathlib.Core.List.{Memᴰ}
@@ -9,8 +8,8 @@ use Rattle.std.proofs.lemmas.Bool.{eq-eqb, eqb-true, and_from}
 use Rattle.model.specs.Lists.{some}
 use Rattle.model.specs.Calls.{Seen, Order}
 use Rattle.model.specs.World.{Agent, is_seen, risen, running, reported, obeys}
-use Rattle.model.specs.Memory.{Memory, Doing, comes_to, leaves, Stand, asleep, awake}
-use Rattle.model.specs.Wire.{Bytes, Read, meant, Answer, Runs}
+use Rattle.model.specs.Memory.{Memory, Doing, awake}
+use Rattle.model.specs.Wire.{Bytes, Read, Answer}
 use Rattle.model.specs.Answers.{read_answer_lem}
 use Rattle.model.specs.Lines.{call_in}
 use Rattle.model.proofs.Lists.Tests.{from_true}
@@ -21,7 +20,7 @@ use Rattle.agents.specs.Steps.{takes_in, report_line, starting, Obeyed, Marked, 
 use Rattle.agents.specs.declared.order.Deed.{Deed}
 use Rattle.serving.specs.Herd.{Held, herd_code}
 use Rattle.serving.specs.Serves.{Serves}
-use Rattle.together.specs.Real.{Body, up, off, fresh, Turn, Heard, heard, at, set, Comes, Move, Came}
+use Rattle.together.specs.Real.{Body, up, fresh, Turn, heard, at, set, Move, Came}
 use Rattle.together.specs.Moves.{HerdAnswers, HerdWakes, ComesUp, GoesOn, Sends, AgentHears}
 
 -- THE HERD

@@ -113,7 +113,7 @@ module _ (H : List Heard → State → Type 0) (H_first : H [] blank) (H_says : 
           bodies = same_put g f i (up (reported a)) (reported (f i)) (ap reported e) t.bodies;
           stands = t.stands;
           lines = subst (λ (y : Agent). Lined (report_line i a ∷ bs) (report_of i y ∷ t.words)) (sym e)
-          (lined_cons (report_line i a) bs _ (carried_framed ((a.number + 1) % 4294967296) (call_bytes (Report i a.life (a.number + 1) (may_run a.runs a.ordered))) _ (carried_report i a.life (a.number + 1) (may_run a.runs a.ordered) _ (report_fits i a p q k) (Memᴰ.head refl))) (lined_more bs (report_of i a) t.words t.lines));
+              (lined_cons (report_line i a) bs _ (carried_framed ((a.number + 1) % 4294967296) (call_bytes (Report i a.life (a.number + 1) (may_run a.runs a.ordered))) _ (carried_report i a.life (a.number + 1) (may_run a.runs a.ordered) _ (report_fits i a p q k) (Memᴰ.head refl))) (lined_more bs (report_of i a) t.words t.lines));
         };
         able = able_set g i (up (reported a)) (able_reported a k) z.able;
         has = z.has;

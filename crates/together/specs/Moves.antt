@@ -1,15 +1,14 @@
 -- WHAT THE PROGRAMS DO is a move of the world as it runs, or several: whatever the code of the herd and of agents does, from a world that can come to be, leads to one.
 -- Assumes nothing.
-use Rattle.std.specs.Prelude.{◌≡◌, ℕ, ◌+◌, ◌<◌, Bool, List, [], ◌∷◌, Some, None, Ok, Err, Result, Vec, vec_items, MatchResult}
+use Rattle.std.specs.Prelude.{◌≡◌, ℕ, ◌+◌, List, ◌∷◌, Some, None, Result, Vec, vec_items, MatchResult}
 use Rattle.std.specs.declared.alloc.Global.{Global}
-use Rattle.std.specs.declared.alloc.AllocError.{AllocError}
 use mathlib.Core.List.{Memᴰ}
 use Rattle.model.specs.World.{Agent}
 use Rattle.model.specs.Memory.{Memory, Stand, asleep, awake}
 use Rattle.model.specs.Wire.{Bytes}
 use Rattle.device.specs.Service.{Said}
 use Rattle.serving.specs.Herd.{Held}
-use Rattle.together.specs.Real.{Body, up, off, fresh, Heard, heard, at, set, Comes, Came}
+use Rattle.together.specs.Real.{Body, up, off, Heard, heard, at, set, Comes, Came}
 
 -- THE HERD answers a line that comes, and the answer goes on the lines; or the power fails in that
 abbrev pub HerdAnswers : {V E : Type 0} → Bytes → Held → Memory → Result V E → Said Bytes Held → Memory → Type 0

@@ -1,5 +1,5 @@
 // The moves of an agent, as the program makes them: each is a move of the world as it really runs, or several, or none.
-ghost use Rattle.std.specs.Prelude.{◌≡◌, ◌+◌, MatchResult};
+ghost use Rattle.std.specs.Prelude.{◌≡◌, ◌+◌, ◌<◌};
 ghost use Rattle.model.specs.Answers.{read_answer_lem};
 ghost use Rattle.model.specs.Lines.{call_in};
 ghost use Rattle.model.specs.World as w;
@@ -7,9 +7,17 @@ ghost use Rattle.agents.specs.Steps.{Becomes, Dies, Hears, Reports, Starts, agen
 ghost use Rattle.together.specs.Moves.{AgentHears, AgentReports, ComesUp, GoesOn};
 
 use agents::agent::{Agent, NotRunning, Passed, Unsent};
+use agents::head::Head;
 use agents::order::Deed;
 use jobs::ids::{Life, MachineId, TaskId};
 use std::alloc::{AllocError, Global};
+
+// The numbers of a head are of as many bytes as a report has for them: that is said here, where their types are at hand.
+fn in_range(head: Head)
+    ensures machine { head.machine.0 < 65536 }
+    ensures life { head.life.0 < 18446744073709551616 }
+    ensures number { head.number.0 < 18446744073709551616 }
+{}
 
 // It comes up with a life: the one after that in its file.
 pub fn come_up(heap: Global, machine: MachineId, life: Life) -> Agent
@@ -17,6 +25,7 @@ pub fn come_up(heap: Global, machine: MachineId, life: Life) -> Agent
     ensures machine { machine_of result ≡ machine.0 }
     ensures moves { ComesUp machine.0 life.0 (agent_of result) }
 {
+    in_range(Head::new(machine, life));
     Agent::new(heap, machine, life)
 }
 
@@ -27,9 +36,7 @@ pub fn report(agent: &mut Agent, heap: Global) -> Result<Vec<u8>, Unsent>
     ensures moves { AgentReports (machine_of agent.old) (agent_of agent.old) result (agent_of agent.new) }
 {
     let sent = agent.report(heap);
-    let head = agent.head();
-    let _machine = head.machine.0;
-    let _number = head.number.0;
+    in_range(agent.head());
     sent
 }
 
