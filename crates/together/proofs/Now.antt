@@ -10,16 +10,17 @@ use Rattle.model.specs.World.{Agent, World, Reach}
 use Rattle.model.specs.Memory.{Memory, Doing, comes_to, Halfway, Stand, asleep, awake}
 use Rattle.model.specs.Wire.{Bytes}
 use Rattle.model.specs.Lines.{core_kind, call_in, bytes_say, answer_line, line_leaves}
-use Rattle.model.specs.Always.{Within, entered, TakesFew, NoneWaits}
+use Rattle.model.specs.Always.{Within, entered, TakesFew, NoneWaits, ReadyThere}
 use Rattle.model.proofs.Worlds.{never_twice_lem}
 use Rattle.model.proofs.Ordered.{fits_everywhere_lem}
 use Rattle.model.proofs.Replies.{always_takes_few_lem}
 use Rattle.model.proofs.Waits.{never_waits_lem}
+use Rattle.model.proofs.Present.{always_ready_there_lem}
 use Rattle.serving.specs.Herd.{Held, state_in, Tells, Awake, herd_code}
 use Rattle.serving.proofs.Standing.{herd_right}
 use Rattle.together.specs.Real.{Body, up, lost, off, Move}
 use Rattle.together.specs.Telling.{StandsFor, Bodied, Told}
-use Rattle.together.specs.Now.{state_now, herd_state, agent_in, RunsFit, RunsOnce, Passes, TakesFewAlways, NeverWaits, AnswersStand, FitsIn, AlwaysFits}
+use Rattle.together.specs.Now.{state_now, herd_state, agent_in, RunsFit, RunsOnce, Passes, TakesFewAlways, NeverWaits, ReadyNow, AnswersStand, FitsIn, AlwaysFits}
 use Rattle.together.proofs.Says.{Outcome, outcome}
 use Rattle.together.proofs.Telling.{all_told_lem}
 
@@ -72,6 +73,9 @@ runs_once w c i j k h =
 -- e.
 pub never_waits_now : NeverWaits
 never_waits_now w c = let t = all_told_lem w c in subst NoneWaits (told_is w.herd t.state t.stands) (never_waits_lem (record { herd = t.state; agent = t.agents; sent = t.words }) t.reached)
+
+pub ready_now : ReadyNow
+ready_now w c = let t = all_told_lem w c in subst ReadyThere (told_is w.herd t.state t.stands) (always_ready_there_lem (record { herd = t.state; agent = t.agents; sent = t.words }) t.reached)
 
 -- f. and d.
 module _ (x : Held) (m : Memory) (s : State) (a : Awake x m s) where

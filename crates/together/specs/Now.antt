@@ -12,7 +12,7 @@ use Rattle.model.specs.Wire.{Bytes, meant, read_call, kind_of, Refused}
 use Rattle.model.specs.Answers.{read_answer_lem}
 use Rattle.model.specs.Lines.{core_kind, call_in, answer_line, line_leaves}
 use Rattle.model.specs.Promise.{seen_in}
-use Rattle.model.specs.Always.{Within, is_of, differ, entered, TakesFew, NoneWaits}
+use Rattle.model.specs.Always.{Within, is_of, differ, entered, TakesFew, NoneWaits, ReadyThere}
 use Rattle.device.specs.Service.{Said}
 use Rattle.serving.specs.Herd.{Held, state_in, herd_code}
 use Rattle.together.specs.Telling.{AllTold}
@@ -98,6 +98,10 @@ TakesFewAlways = (w v : Real) → Came w → (s : Move w v) → Takes s
 abbrev pub NeverWaits : Type 0
 NeverWaits = (w : Real) → Came w → NoneWaits (herd_state w)
 
+-- and what is said to be ready is on a machine that the herd has and has heard lately
+abbrev pub ReadyNow : Type 0
+ReadyNow = (w : Real) → Came w → ReadyThere (herd_state w)
+
 -- f. WHAT WAS ANSWERED STANDS: a line is answered, and leaves, what the meaning of lines says; where the power fails in it, it was done or it wasn't; the dark takes nothing but the time and who was heard; waking changes nothing, also where it is cut
 abbrev pub Stays : {w v : Real} → Move w v → Type 0
 Stays (Move.answers x m g bs cs b d c way) = ((comes_to d m).reply ≡ answer_line core_kind b (state_in x)) × (state_in (comes_to d m).mind ≡ line_leaves core_kind b (state_in x))
@@ -128,5 +132,6 @@ pub record HoldsAlways : Type 0 where
   pub over : NeverOver
   pub takes : TakesFewAlways
   pub waits : NeverWaits
+  pub ready : ReadyNow
   pub stands : AnswersStand
   pub within : AlwaysFits

@@ -1,5 +1,5 @@
 // What is shown of all together as it runs, each on the contract of a small function.
-ghost use Rattle.together.specs.Now.{AlwaysFits, AnswersStand, NeverOver, NeverWaits, RunsFit, RunsOnce, TakesFewAlways};
+ghost use Rattle.together.specs.Now.{AlwaysFits, AnswersStand, NeverOver, NeverWaits, ReadyNow, RunsFit, RunsOnce, TakesFewAlways};
 ghost use Rattle.together.specs.Telling.{AllTold};
 
 // Every world that can come to be, with the herd as its code over kept words, cut wherever the power fails, with bytes on
@@ -43,6 +43,13 @@ pub fn takes_few() -> u8
 // No task waits that a machine would take.
 pub fn never_waits() -> u8
     ensures { NeverWaits }
+{
+    0
+}
+
+// What is said to be ready is on a machine that the herd has, and that reported lately.
+pub fn ready_there() -> u8
+    ensures { ReadyNow }
 {
     0
 }
