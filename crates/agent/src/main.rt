@@ -8,11 +8,11 @@ mod skipped;
 #[cfg(test)]
 mod tests;
 
-use agents::agent::Agent;
 use jobs::ids::MachineId;
 use life::{Trouble, rise};
 use serve::serve;
 use std::env;
+use together::agent::come_up;
 
 #[derive(Drop)]
 struct Place {
@@ -41,7 +41,7 @@ fn arguments(rt: &HostRuntime) -> Result<Place, Trouble> {
 fn run(rt: &HostRuntime) -> Result<(), Trouble> {
     let Place { machine, dir } = arguments(rt)?;
     let life = rise(rt, dir.as_str())?;
-    let mut agent = Agent::new(rt.alloc(), machine, life);
+    let mut agent = come_up(rt.alloc(), machine, life);
     serve(rt, &mut agent, life).map_err(Trouble::Lines)
 }
 

@@ -9,6 +9,7 @@ use lines::input::each_piece;
 use std::alloc::{AllocError, Global};
 use std::io;
 use std::io::Write;
+use together::agent as moves;
 
 const NEWLINE: u8 = 10;
 
@@ -22,7 +23,7 @@ fn send_text(heap: Global, bytes: &[u8]) -> Result<Vec<u8>, AllocError> {
 
 // A report goes out in one write.
 fn report(rt: &HostRuntime, agent: &mut Agent) -> Result<(), Skipped> {
-    let bytes = agent.report(rt.alloc())?;
+    let bytes = moves::report(agent, rt.alloc())?;
     let text = send_text(rt.alloc(), bytes.as_slice()).map_err(|_| Skipped::Text)?;
     rt.stdout().write_all(text.as_slice())?;
     Ok(())
@@ -37,15 +38,15 @@ fn carry_out(rt: &HostRuntime, deeds: &[Deed]) -> io::Result<()> {
 
 fn answer(rt: &HostRuntime, agent: &mut Agent, digits: &[u8]) -> Result<(), Skipped> {
     let bytes = bytes_of(rt.alloc(), digits)?;
-    let deeds = agent.hear(rt.alloc(), bytes.as_slice())?;
+    let deeds = moves::hear(agent, rt.alloc(), bytes.as_slice())?;
     carry_out(rt, deeds.as_slice())?;
     Ok(())
 }
 
 // What died is started again, if it is ordered.
 fn dies(rt: &HostRuntime, agent: &mut Agent, task: TaskId) -> Result<(), Skipped> {
-    agent.die(task).map_err(|why| Skipped::Dies(task, why))?;
-    let deeds = agent.start(rt.alloc()).map_err(|_| Skipped::Start)?;
+    moves::die(agent, task).map_err(|why| Skipped::Dies(task, why))?;
+    let deeds = moves::start(agent, rt.alloc()).map_err(|_| Skipped::Start)?;
     carry_out(rt, deeds.as_slice())?;
     Ok(())
 }
@@ -54,9 +55,9 @@ fn follow(rt: &HostRuntime, agent: &mut Agent, line: &Line) -> Result<(), Skippe
     match meaning(line.text()?).ok_or(Skipped::Meaningless)? {
         Said::Report => report(rt, agent),
         Said::Answer(digits) => answer(rt, agent, digits),
-        Said::Ready(task) => agent
-            .mark(task, true)
-            .map_err(|why| Skipped::Ready(task, why)),
+        Said::Ready(task) => {
+            moves::mark(agent, task, true).map_err(|why| Skipped::Ready(task, why))
+        }
         Said::Dies(task) => dies(rt, agent, task),
     }
 }

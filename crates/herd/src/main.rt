@@ -10,8 +10,8 @@ use device::filed::Filed;
 use device::kept::WORDS;
 use device::open::open;
 use serve::serve;
-use serving::wake::wake;
 use std::env;
+use together::herd::wake;
 use trouble::Trouble;
 
 // The directory of the kept words: the only argument, else the one that it is started in.

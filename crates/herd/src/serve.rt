@@ -6,9 +6,9 @@ use lines::hex::say;
 use lines::input::each_piece;
 use lines::reader::Reader;
 use lines::reply::{ROOM, Reply};
-use serving::answer::answer;
 use std::io;
 use std::io::{ErrorKind, Write};
+use together::herd::answer;
 
 // The longest answer as text: a word and a space, two digits for each byte, a newline.
 const TEXT: usize = 5 + 2 * ROOM;

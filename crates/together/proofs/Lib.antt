@@ -1,0 +1,14 @@
+pub mod Listing
+pub mod Says
+pub mod Bearing
+pub mod Turning
+pub mod Ables
+pub mod Coming
+pub mod Telling
+pub mod Now
+pub mod Noted
+pub mod Counting
+pub mod Over
+pub mod Moving
+pub mod All
+pub mod Contracts

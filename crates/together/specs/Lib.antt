@@ -1,0 +1,4 @@
+pub mod Real
+pub mod Telling
+pub mod Now
+pub mod Moves
