@@ -25,10 +25,10 @@ use Rattle.together.proofs.Ables.{AbleIn, able_set, able_turned, able_reported, 
 use Rattle.together.proofs.Coming.{Lined, lined_more, lined_cons, Listable, Next, comes}
 
 -- a state that a mind stands for
-low_of : (x : Held) (s : State) → Stands x s → (m : Machine) → In m s.machines → m.num < 65536
+pub low_of : (x : Held) (s : State) → Stands x s → (m : Machine) → In m s.machines → m.num < 65536
 low_of x s a m i = machine_brief x m (subst (λ (t : State). In m t.machines) a.1 i)
 
-listable_of : (x : Held) (s : State) → Stands x s → Listable s
+pub listable_of : (x : Held) (s : State) → Stands x s → Listable s
 listable_of x s a = subst Listable (sym a.1) (λ k. (few_orders x a.0 k, orders_fit x a.0 k))
 
 -- each report that was answered there came

@@ -1,0 +1,5 @@
+pub mod After
+pub mod Answering
+pub mod Machines
+pub mod Running
+pub mod Resting
