@@ -96,9 +96,6 @@ module _ (P : State → Type 0) (x : Held) (m : Memory) (g : ℕ → Body) (bs :
       step : Calm [] w (world (does (Tick t) s).state f ws)
       step = rest.Calm.ticks w t up'
 
-
-
-
       pick : Outcome (call_in b) s (bytes_say core_kind (call_in b) s) → After P [] w (done_with m g bs cs b d)
       pick (Outcome.quiet n a h) = still h (ap is_runs a)
       pick (Outcome.done c q n a h) =

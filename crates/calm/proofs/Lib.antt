@@ -3,3 +3,4 @@ pub mod Answering
 pub mod Machines
 pub mod Running
 pub mod Resting
+pub mod Moves

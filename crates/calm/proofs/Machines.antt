@@ -66,9 +66,11 @@ module _ (P : State → Type 0) (s : State) (f : ℕ → Agent) (ws : List Word)
   turned_calm (Turn.clears a) k i h = absurd k
   turned_calm (Turn.comes_up d l) k i h = absurd k
   turned_calm (Turn.is_cut_up d l) k i h = absurd k
-  turned_calm (Turn.starts a o m n) k i h =
-      (running (record { id = o.id; ready = false } ∷ (f i).runs) (f i), ap (λ (x : Agent). running (record { id = o.id; ready = false } ∷ x.runs) x) h,
-      by_step i _ (rest.Calm.starts (world s f ws) i o (subst (λ (x : Agent). Memᴰ o x.ordered) (sym h) m) (subst (λ (x : Agent). T (not (some (is_seen o.id) x.runs))) (sym h) n)))
+  turned_calm (Turn.starts a o m n) k i h = (
+    running (record { id = o.id; ready = false } ∷ (f i).runs) (f i),
+    ap (λ (x : Agent). running (record { id = o.id; ready = false } ∷ x.runs) x) h,
+    by_step i _ (rest.Calm.starts (world s f ws) i o (subst (λ (x : Agent). Memᴰ o x.ordered) (sym h) m) (subst (λ (x : Agent). T (not (some (is_seen o.id) x.runs))) (sym h) n)),
+  )
   turned_calm (Turn.becomes a before behind x b e) k i h =
       (running (before ++ record { id = x.id; ready = b } ∷ behind) (f i), ap (λ (y : Agent). running (before ++ record { id = x.id; ready = b } ∷ behind) y) h, by_step i _ (rest.Calm.becomes (world s f ws) i before behind x b (ap (λ (y : Agent). y.runs) h ∙ e)))
   turned_calm (Turn.dies a before behind x e) k i h = (running (before ++ behind) (f i), ap (λ (y : Agent). running (before ++ behind) y) h, by_step i _ (rest.Calm.dies (world s f ws) i before behind x (ap (λ (y : Agent). y.runs) h ∙ e)))

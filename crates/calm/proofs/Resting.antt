@@ -46,7 +46,7 @@ really_sooner w u v n c s ap' ra rs k =
 just : (y : Real) (h : Has Any y) (i : ℕ) (a : Agent) → h.told.agents i ≡ a → AsListed (teller h.told) i → RunsJust y i a
 just y h i a e q =
     let p = subst₂ (λ (s : State) (b : Agent). (b.ordered ≡ orders (keep (on_machine i) s.tasks)) × ((t : Task) → Memᴰ t s.tasks → T (on_machine i t) → Memᴰ (record { id = t.id; ready = true }) b.runs) × ((x : Seen) → Memᴰ x b.runs → (t : Task) × Memᴰ t s.tasks × T (on_machine i t) × (t.id ≡ x.id) × (x.ready ≡ true)))
-        (told_state y h.told) e (q.ordered, q.all, q.only) in
+    (told_state y h.told) e (q.ordered, q.all, q.only) in
     record { ordered = p.0; all = p.1; only = p.2 }
 
 pub really_as_listed : ReallyAsListed
@@ -55,5 +55,5 @@ really_as_listed w v x y ks c ra at rb cs m mi a o ob said =
     let t = qc.has.told in
     let e : t.agents m.num ≡ a = subst (λ (z : Body). Bodied z (t.agents m.num)) o (t.bodies m.num) in
     let r = listed.runs_as_listed (teller h.told) (teller qa.has.told) (teller qb.has.told) (teller t) ks h.told.reached qa.round (subst AtRest (sym (told_state v qa.has.told)) at) qb.round qc.course m
-        (subst (λ (s : State). Memᴰ m s.machines) (sym (told_state y t)) mi) (obeyed_there Anyhow y.herd y.body y.sent y.came qc.has m.num tt a e ob) (subst (λ (b : Agent). (s : Seen) → Memᴰ s (said_by b) → s.ready ≡ true) (sym e) said) in
+    (subst (λ (s : State). Memᴰ m s.machines) (sym (told_state y t)) mi) (obeyed_there Anyhow y.herd y.body y.sent y.came qc.has m.num tt a e ob) (subst (λ (b : Agent). (s : Seen) → Memᴰ s (said_by b) → s.ready ≡ true) (sym e) said) in
     just y qc.has m.num a e r

@@ -9,7 +9,7 @@ use Rattle.model.specs.World.{Agent}
 use Rattle.rest.specs.Rounds.{Anyhow, Roomy}
 use Rattle.rest.specs.Rest.{AtRest, enough, SomeMachine, said_by}
 use Rattle.rest.specs.Sooner.{Apart, enough_apart}
-use Rattle.together.specs.Real.{up, Real, Came}
+use Rattle.together.specs.Real.{up, Real, Move, Came}
 use Rattle.together.specs.Now.{herd_state}
 use Rattle.calm.specs.Rounds.{HasObeyed, CalmMove, CalmRun, CalmRound, CalmRounds}
 
@@ -41,3 +41,7 @@ abbrev pub ReallyAsListed : Type 0
 ReallyAsListed =
     (w v x y : Real) (ks : List ℕ) → Came w → CalmRound Anyhow w v → AtRest (herd_state v) → CalmRound Anyhow v x → CalmRun Anyhow ks x y →
     (m : Machine) → Memᴰ m (herd_state y).machines → (a : Agent) → y.body m.num ≡ up a → HasObeyed y.came m.num a → ((s : Seen) → Memᴰ s (said_by a) → s.ready ≡ true) → RunsJust y m.num a
+
+-- Each calm move is a move of the world as it runs: rounds are made of nothing else.
+abbrev pub CalmIsMove : Type 0
+CalmIsMove = (ks : List ℕ) (w v : Real) → CalmMove ks w v → Move w v

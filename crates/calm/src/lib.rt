@@ -5,7 +5,7 @@
 // said in plain words above it; the function itself does nothing.
 #![tactic(auto)]
 
-ghost use Rattle.calm.specs.Rest.{ReallyAsListed, ReallyRests, ReallySooner};
+ghost use Rattle.calm.specs.Rest.{CalmIsMove, ReallyAsListed, ReallyRests, ReallySooner};
 
 // Where no line comes to the herd but reports, times that machines can keep up with, and bytes that say nothing, the herd
 // and agents stay up, agents obey what they are answered before they report again, what is ordered is ready when its machine
@@ -29,6 +29,13 @@ pub fn sooner() -> u8
 // whenever its agent is up and has obeyed its answer and what is ordered is ready.
 pub fn runs_as_listed() -> u8
     ensures { ReallyAsListed }
+{
+    0
+}
+
+// Each calm move is a move of the world as it really runs.
+pub fn calm_is_move() -> u8
+    ensures { CalmIsMove }
 {
     0
 }
