@@ -7,7 +7,7 @@ use Rattle.model.specs.State.{Machine, State, is_machine, on_machine}
 use Rattle.model.specs.Settle.{settle}
 use Rattle.model.specs.Calls.{Seen, Call, SetJob, EndJob, AddMachine, Close, Reopen, Forget, Report, Tick, Show, Order, Reply, No, Yes, Run, Lines, Out, orders, heard, does}
 use Rattle.model.specs.Promise.{Answers}
-use Rattle.model.specs.Wire.{Bytes, Read, garbled, meant, read_call, kind_of, Refused, answer_to}
+use Rattle.model.specs.Wire.{Bytes, Read, garbled, meant, read_call, kind_of, Answer, Refused, Runs, answer_to}
 use Rattle.model.specs.Answers.{is_runs}
 use Rattle.model.specs.Lines.{core_kind, kind_in, is_known, Said, refuses, call_says, bytes_say}
 use Rattle.model.proofs.Lists.{never, In, find_in, to_true}
@@ -125,3 +125,44 @@ taken i l n xs s = does_when P (Report i l n xs) s (λ k q os e. never (cc)) mus
         let k : ◌≡◌ {A = Reply} (Run n (orders (keep (on_machine i) u.tasks))) (Run q os) = r in
         let a : n ≡ q = cc in let b : orders (keep (on_machine i) u.tasks) ≡ os = cc in
         record { life = ltb-false _ _ v.0; number = ltb-false _ _ v.1; same = sym a; machine = m; there = f.0; num = sym (eqb-true i m.num f.1); orders = sym b }
+
+-- WHAT IS ANSWERED WITH WHAT IS TO RUN is a report, and the herd heard it
+pub record Reported (i l n : ℕ) (os : List Order) (bs : Bytes) (s t : State) : Type 0 where
+  pub seens : List Seen
+  pub says : read_call bs ≡ meant (Report i l n seens)
+  pub reply : (does (Report i l n seens) s).reply ≡ Run n os
+  pub state : t ≡ (does (Report i l n seens) s).state
+
+no_runs : {C : Type 0} {a b : Answer} → a ≡ b → is_runs a ≡ false → is_runs b ≡ true → C
+no_runs e p q = let z : false ≡ true = sym p ∙ ap is_runs e ∙ q in never (cc)
+
+pub reported_by : (bs : Bytes) (s : State) (i l n : ℕ) (os : List Order) → (bytes_say core_kind bs s).answer ≡ Runs i l n os → Reported i l n os bs s (bytes_say core_kind bs s).state
+reported_by bs s i l n os h = pick (outcome bs s)
+  where
+    T' : State
+    T' = (bytes_say core_kind bs s).state
+
+    by_reply : (i' l' n' : ℕ) (xs : List Seen) → read_call bs ≡ meant (Report i' l' n' xs) → T' ≡ (does (Report i' l' n' xs) s).state → (r : Reply) → (does (Report i' l' n' xs) s).reply ≡ r → answer_to (Report i' l' n' xs) r ≡ Runs i l n os → Reported i l n os bs s T'
+    by_reply i' l' n' xs e t (Run q ps) a g =
+        let k = taken i' l' n' xs s q ps a in let z = k.same in
+        let ei : i' ≡ i = cc in let el : l' ≡ l = cc in let en : n' ≡ n = cc in let eo : ps ≡ os = cc in
+        let c : Report i' l' n' xs ≡ Report i l n xs = (λ j. Report (ei j) (el j) (en j) xs) in
+        record { seens = xs; says = e ∙ ap meant c; reply = ap (λ (x : Call). (does x s).reply) (sym c) ∙ a ∙ (λ j. Run ((z ∙ en) j) (eo j)); state = t ∙ ap (λ (x : Call). (does x s).state) c }
+    by_reply i' l' n' xs e t (No q) a g = no_runs g refl refl
+    by_reply i' l' n' xs e t Yes a g = no_runs g refl refl
+    by_reply i' l' n' xs e t (Lines ls) a g = no_runs g refl refl
+
+    by_call : (c : Call) → read_call bs ≡ meant c → answer_to c (does c s).reply ≡ Runs i l n os → T' ≡ (does c s).state → Reported i l n os bs s T'
+    by_call (Report i' l' n' xs) e g t = by_reply i' l' n' xs e t (does (Report i' l' n' xs) s).reply refl g
+    by_call (Forget k) e g t = no_runs g (not_runs (Forget k) _ (no_run_forget k s)) refl
+    by_call (SetJob x b k p m) e g t = no_runs g (not_runs (SetJob x b k p m) _ (no_run (SetJob x b k p m) s refl)) refl
+    by_call (EndJob x) e g t = no_runs g (not_runs (EndJob x) _ (no_run (EndJob x) s refl)) refl
+    by_call (AddMachine j x m p) e g t = no_runs g (not_runs (AddMachine j x m p) _ (no_run (AddMachine j x m p) s refl)) refl
+    by_call (Close j) e g t = no_runs g (not_runs (Close j) _ (no_run (Close j) s refl)) refl
+    by_call (Reopen j) e g t = no_runs g (not_runs (Reopen j) _ (no_run (Reopen j) s refl)) refl
+    by_call (Tick p) e g t = no_runs g (not_runs (Tick p) _ (no_run (Tick p) s refl)) refl
+    by_call (Show x) e g t = no_runs g (not_runs (Show x) _ (no_run (Show x) s refl)) refl
+
+    pick : Outcome bs s (bytes_say core_kind bs s) → Reported i l n os bs s T'
+    pick (Outcome.quiet k a t) = no_runs (sym a ∙ h) refl refl
+    pick (Outcome.done c e k a t) = by_call c e (sym a ∙ h) t

@@ -47,7 +47,7 @@ pub record Heard : Type 0 where
 abbrev pub heard : Bytes → Option Bytes → Heard
 heard b r = record { line = b; reply = r }
 
--- THE WORLD. sent: all lines that an agent or the herd ever sent. came: all that came to the herd, the latest first, which nobody looks at.
+-- THE WORLD. sent: all lines that an agent or the herd ever sent. came: all that came to the herd, the latest first, which nothing that runs looks at.
 pub record Real : Type 0 where
   pub herd : Stand Held
   pub body : ℕ → Body

@@ -1,16 +1,16 @@
 -- WHAT TELLS OF WHAT: a world as it runs is told of by one that the model reaches.
 -- Assumes nothing.
-use Rattle.std.specs.Prelude.{◌≡◌, ℕ, ◌+◌, true, ◌⊎◌, List, [], ◌≢◌}
+use Rattle.std.specs.Prelude.{◌≡◌, ℕ, ◌+◌, true, ◌⊎◌, List, [], Some, None, ◌≢◌}
 use mathlib.Core.List.{Memᴰ}
 use Rattle.model.specs.State.{State}
 use Rattle.model.specs.Calls.{Seen, Forget, Report, Order}
 use Rattle.model.specs.World.{Agent, Word, Up, Back, Reach}
 use Rattle.model.specs.Memory.{Stand, asleep, awake}
-use Rattle.model.specs.Wire.{Bytes, meant, read_call, Runs}
-use Rattle.model.specs.Lines.{call_in}
+use Rattle.model.specs.Wire.{Bytes, meant, read_call, Runs, answer_bytes}
+use Rattle.model.specs.Lines.{framed, tag_in, call_in}
 use Rattle.model.specs.Answers.{read_answer_lem, runs_fit_lem}
 use Rattle.serving.specs.Herd.{Held, Tells, Awake}
-use Rattle.together.specs.Real.{Body, up, lost, off, Real, Came}
+use Rattle.together.specs.Real.{Body, up, lost, off, Heard, Real, Came}
 
 -- what bytes say, if they are a report or the answer to one, was said in the other world; they don't say that a machine is gone
 pub record Carried (bs : Bytes) (ws : List Word) : Type 0 where
@@ -36,6 +36,14 @@ Bodied (up x) a = a ≡ x
 Bodied (lost x) a = a ≡ x
 Bodied (off d) a = Rested a d
 
+-- a report that was answered there, came here too: it was answered with the same, or the power failed in it
+pub record Answered (cs : List Heard) (i l n : ℕ) (os : List Order) : Type 0 where
+  pub heard : Heard
+  pub there : Memᴰ heard cs
+  pub seens : List Seen
+  pub says : read_call (call_in heard.line) ≡ meant (Report i l n seens)
+  pub reply : (heard.reply ≡ None) ⊎ (heard.reply ≡ Some (framed (tag_in heard.line) (answer_bytes (Runs i l n os))))
+
 pub record Told (w : Real) : Type 0 where
   pub state : State
   pub agents : ℕ → Agent
@@ -44,6 +52,7 @@ pub record Told (w : Real) : Type 0 where
   pub bodies : (i : ℕ) → Bodied (w.body i) (agents i)
   pub stands : StandsFor w.herd state
   pub lines : (b : Bytes) → Memᴰ b w.sent → Carried (call_in b) words
+  pub answered : (i l n : ℕ) (os : List Order) → Memᴰ (Back i l n os) words → Answered w.came i l n os
 
 -- THE REFINEMENT
 abbrev pub AllTold : Type 0
