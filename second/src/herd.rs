@@ -15,6 +15,12 @@ pub struct Herd {
     pub kept: Kept,
 }
 
+impl Default for Herd {
+    fn default() -> Herd {
+        Herd::new()
+    }
+}
+
 impl Herd {
     pub fn new() -> Herd {
         Herd {

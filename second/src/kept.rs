@@ -17,7 +17,7 @@ pub struct Kept {
 }
 
 impl Kept {
-    pub fn new() -> Kept {
+    pub(crate) fn new() -> Kept {
         Kept {
             words: vec![0; WORDS],
             stores: 0,

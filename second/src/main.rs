@@ -1,30 +1,10 @@
 //! The herd a second time: plays scripts, and writes them.
 
-mod acts;
-mod agent;
-mod bytes;
-mod calls;
-#[cfg(test)]
-mod cases;
-mod check;
-mod cuts;
-#[cfg(test)]
-mod darkness;
-mod generate;
-mod herd;
-mod kept;
-mod kinds;
-mod lines;
-mod play;
-mod rows;
-mod rules;
-mod script;
-mod show;
-mod sweeps;
-
 use std::io::{self, Read, Write};
 use std::path::Path;
 use std::process::ExitCode;
+
+use second::{cuts, generate, play};
 
 fn main() -> ExitCode {
     let words: Vec<String> = std::env::args().skip(1).collect();

@@ -42,7 +42,7 @@ pub fn play(script: &[u8]) -> (Vec<String>, bool) {
 }
 
 impl Play {
-    pub fn new() -> Play {
+    pub(crate) fn new() -> Play {
         Play {
             herd: Herd::new(),
             agents: Vec::new(),
