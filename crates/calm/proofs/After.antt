@@ -1,9 +1,9 @@
 -- What a calm move leads to: a world that is told of, by one that the telling one comes to by calm steps.
 -- Assumes nothing.
-use Rattle.std.proofs.Common.{◌≡◌, ℕ, List, [], ◌++◌, sym, subst}
+use Rattle.std.proofs.Common.{◌≡◌, ℕ, List, ◌++◌}
 use Rattle.model.specs.State.{State}
 use Rattle.model.specs.World.{World}
-use Rattle.rest.specs.Rounds.{Calm, Course}
+use Rattle.rest.specs.Rounds.{Course}
 use Rattle.together.specs.Real.{Heard, Real, Came}
 use Rattle.together.specs.Telling.{Told}
 use Rattle.together.specs.Now.{herd_state}

@@ -1,17 +1,16 @@
 -- A line comes in a calm time and is answered.
 -- Assumes nothing.
-use Rattle.std.proofs.Common.{◌≡◌, ℕ, ◌+◌, ◌<◌, true, false, ◌&&◌, ltb, ◌⊎◌, List, [], ◌∷◌, ◌++◌, length, Some, None, Option, sym, refl, ap, ◌∙◌, subst, subst₂, inl, inr, arith}
+use Rattle.std.proofs.Common.{◌≡◌, ℕ, ◌<◌, true, false, ◌&&◌, ltb, ◌⊎◌, List, [], ◌∷◌, ◌++◌, length, Some, sym, refl, ap, ◌∙◌, subst, inl, inr, arith}
 use mathlib.Core.List.{Memᴰ}
 use Rattle.std.proofs.lemmas.Bool.{and_from, lt-ltb}
-use Rattle.model.specs.Lists.{every, keep}
-use Rattle.model.specs.State.{Machine, State, on_machine}
-use Rattle.model.specs.Settle.{present}
-use Rattle.model.specs.Calls.{Seen, Call, Report, Tick, Order, Reply, No, Yes, Run, Lines, orders, later, does}
-use Rattle.model.specs.World.{Agent, Word, Up, Back, World, Reach}
+use Rattle.model.specs.Lists.{every}
+use Rattle.model.specs.State.{Machine, State}
+use Rattle.model.specs.Calls.{Seen, Call, Report, Tick, Order, Run, does}
+use Rattle.model.specs.World.{Agent, Word, Back, World, Reach}
 use Rattle.model.specs.Memory.{Memory, Doing, comes_to, leaves, awake}
-use Rattle.model.specs.Wire.{Bytes, Read, garbled, meant, read_call, Answer, Refused, Runs, answer_to, answer_bytes}
+use Rattle.model.specs.Wire.{Bytes, garbled, meant, read_call, Answer, Refused, Runs, answer_to, answer_bytes}
 use Rattle.model.specs.Answers.{is_runs, long, order_fits, runs_fit_lem}
-use Rattle.model.specs.Lines.{core_kind, framed, tag_in, call_in, bytes_say, answer_line, line_leaves}
+use Rattle.model.specs.Lines.{core_kind, framed, tag_in, call_in, bytes_say, line_leaves}
 use Rattle.model.proofs.Lists.{never, In, in_from, in_to}
 use Rattle.model.proofs.Worlds.{hears_not_lem}
 use Rattle.device.specs.Service.{Said}
@@ -21,10 +20,10 @@ use Rattle.serving.proofs.Standing.{herd_right}
 use Rattle.rest.specs.Rounds as rest
 use Rattle.rest.specs.Rounds.{Calm, Course}
 use Rattle.rest.proofs.Lines.{calm_reach}
-use Rattle.together.specs.Real.{Body, up, Heard, heard, Real, at}
+use Rattle.together.specs.Real.{Body, up, Heard, heard, at}
 use Rattle.together.specs.Telling.{Carried, Bodied, Answered}
 use Rattle.together.specs.Now.{herd_state}
-use Rattle.together.proofs.Says.{Outcome, outcome, not_runs, no_run, Reported, reported_by, Taken, taken}
+use Rattle.together.proofs.Says.{Outcome, outcome, not_runs, no_run, reported_by, Taken, taken}
 use Rattle.together.proofs.Bearing.{carried_framed, carried_answer, carried_runs}
 use Rattle.together.proofs.Turning.{world}
 use Rattle.together.proofs.Coming.{Lined, lined_more, lined_cons, Listable}

@@ -1,12 +1,12 @@
 -- What agents do in a calm time, and what happens on machines alone.
 -- Assumes nothing.
-use Rattle.std.proofs.Common.{◌≡◌, ℕ, ◌+◌, ◌<◌, ◌%◌, true, false, cond, not, ◌&&◌, T, eqb, ◌⊎◌, List, [], ◌∷◌, ◌++◌, None, Some, sym, refl, ap, ◌∙◌, subst, inl, inr}
+use Rattle.std.proofs.Common.{◌≡◌, ℕ, ◌+◌, ◌<◌, ◌%◌, true, false, not, ◌&&◌, T, eqb, List, [], ◌∷◌, ◌++◌, sym, refl, ap, ◌∙◌, subst, inl, inr}
 use mathlib.Core.List.{Memᴰ}
 use Rattle.std.proofs.lemmas.Bool.{eqb-true, and_parts, cond_both}
 use Rattle.model.specs.Lists.{some}
 use Rattle.model.specs.State.{State}
-use Rattle.model.specs.Calls.{Seen, Report, Order}
-use Rattle.model.specs.World.{Agent, Word, Up, Back, World, put, is_seen, may_run, report_of, reported, running, obeys, Reach}
+use Rattle.model.specs.Calls.{Report, Order}
+use Rattle.model.specs.World.{Agent, Word, Back, World, put, is_seen, may_run, report_of, reported, running, obeys, Reach}
 use Rattle.model.specs.Memory.{Stand}
 use Rattle.model.specs.Wire.{Bytes, Read, garbled, meant, call_bytes, Answer, Refused, Done, Runs, Shown}
 use Rattle.model.specs.Answers.{read_answer_lem}
@@ -16,7 +16,7 @@ use Rattle.serving.specs.Herd.{Held}
 use Rattle.rest.specs.Rounds as rest
 use Rattle.rest.specs.Rounds.{Calm, Course}
 use Rattle.rest.proofs.Lines.{calm_reach}
-use Rattle.together.specs.Real.{Body, up, lost, off, Turn, Heard, Real, at, set}
+use Rattle.together.specs.Real.{Body, up, Turn, Heard, at, set}
 use Rattle.together.specs.Telling.{Carried, Bodied}
 use Rattle.together.specs.Now.{state_now}
 use Rattle.together.proofs.Bearing.{carried_framed, carried_report}

@@ -1,6 +1,6 @@
 -- Calm moves are moves.
 -- Assumes nothing.
-use Rattle.std.proofs.Common.{◌≡◌, ℕ, List, T, sym, ap, ◌∙◌, subst}
+use Rattle.std.proofs.Common.{◌≡◌, ℕ, List, T, sym, ◌∙◌, subst}
 use Rattle.model.specs.Calls.{Call, Tick}
 use Rattle.model.specs.Wire.{Bytes, Read, garbled, meant, read_call}
 use Rattle.model.specs.Lines.{call_in}

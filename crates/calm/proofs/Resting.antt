@@ -1,23 +1,22 @@
 -- What really runs comes to rest.
 -- Assumes nothing.
-use Rattle.std.proofs.Common.{◌≡◌, ℕ, ◌+◌, ◌≤◌, true, T, List, sym, ap, ◌∙◌, subst, subst₂}
+use Rattle.std.proofs.Common.{◌≡◌, ℕ, ◌+◌, ◌≤◌, true, T, sym, ap, ◌∙◌, subst, subst₂}
 use mathlib.Core.List.{Memᴰ}
 use Rattle.model.specs.Lists.{keep}
-use Rattle.model.specs.State.{Machine, Task, State, on_machine}
-use Rattle.model.specs.Calls.{Seen, Order, orders}
-use Rattle.model.specs.World.{Agent, Back}
-use Rattle.rest.specs.Rounds.{Anyhow, Roomy, Obeyed}
+use Rattle.model.specs.State.{Task, State, on_machine}
+use Rattle.model.specs.Calls.{Seen, orders}
+use Rattle.model.specs.World.{Agent}
+use Rattle.rest.specs.Rounds.{Anyhow}
 use Rattle.rest.specs.Rest.{AtRest, enough, SomeMachine, StaysAtRest, said_by}
 use Rattle.rest.specs.Sooner.{Apart, enough_apart}
 use Rattle.rest.specs.Listed.{AsListed}
 use Rattle.rest.proofs.Lines as rest
 use Rattle.rest.proofs.Sooner as sooner
 use Rattle.rest.proofs.Listed as listed
-use Rattle.together.specs.Real.{Body, up, Real}
+use Rattle.together.specs.Real.{Body, Real}
 use Rattle.together.specs.Telling.{Bodied}
 use Rattle.together.specs.Now.{herd_state}
 use Rattle.together.proofs.Telling.{Has}
-use Rattle.calm.specs.Rounds.{HasObeyed, CalmRun, CalmRound, CalmRounds}
 use Rattle.calm.specs.Rest.{RemainsAtRest, ReallyRests, ReallySooner, RunsJust, ReallyAsListed}
 use Rattle.calm.proofs.After.{Any, teller, any_came, told_state}
 use Rattle.calm.proofs.Machines.{obeyed_there}

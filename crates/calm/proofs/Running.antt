@@ -1,8 +1,8 @@
 -- Each calm move is calm steps of the world that tells of it, or none; and so runs and rounds are runs and rounds of that.
 -- Assumes nothing.
-use Rattle.std.proofs.Common.{◌≡◌, ℕ, List, [], ◌++◌, sym, subst, add-one}
+use Rattle.std.proofs.Common.{ℕ, List, subst}
 use mathlib.Core.List.{Memᴰ}
-use Rattle.model.specs.State.{Machine, State}
+use Rattle.model.specs.State.{State}
 use Rattle.rest.specs.Rounds.{Course, Round, Rounds}
 use Rattle.together.specs.Real.{Real}
 use Rattle.together.specs.Now.{herd_state}

@@ -1,6 +1,6 @@
 -- Rounds of the world as it really runs: what happens there where all works and people leave the herd alone.
 -- Assumes nothing.
-use Rattle.std.specs.Prelude.{◌≡◌, ℕ, suc, ◌+◌, ◌<◌, Bool, true, false, T, List, [], ◌∷◌, ◌++◌, Some, None, ◌≢◌}
+use Rattle.std.specs.Prelude.{◌≡◌, ℕ, suc, ◌+◌, ◌<◌, true, List, [], ◌∷◌, ◌++◌, Some, None, ◌≢◌}
 use mathlib.Core.List.{Memᴰ}
 use Rattle.model.specs.State.{Machine, State}
 use Rattle.model.specs.Settle.{present}
@@ -13,7 +13,7 @@ use Rattle.model.specs.Lines.{core_kind, framed, tag_in, call_in, bytes_say}
 use Rattle.device.specs.Service.{Said}
 use Rattle.agents.specs.Steps.{takes_in, report_line}
 use Rattle.serving.specs.Herd.{Held, state_in, herd_code}
-use Rattle.together.specs.Real.{Body, up, lost, off, Turn, Heard, heard, Real, at, set}
+use Rattle.together.specs.Real.{Body, up, Turn, Heard, heard, Real, at, set}
 use Rattle.together.specs.Now.{herd_state}
 
 -- A CALM MOVE
