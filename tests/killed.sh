@@ -36,6 +36,8 @@ shown() {
 version=0
 for round in $(seq 1 "$rounds"); do
     load "$round" >lines
+    # Emptied here: who is killed at once may not have come to it, and the answers of the round before would count again.
+    : >out
     "$herd" store <lines >out &
     pid=$!
     sleep "0.$(printf '%03d' $((RANDOM % 60)))"
