@@ -1,5 +1,5 @@
 // The herd in memory: its kept words, what it has in mind, and how many words it may yet store.
-ghost use Rattle.std.specs.Prelude.{◌≡◌, take};
+ghost use Rattle.std.specs.Prelude.{◌≡◌, if◌then◌else◌, take};
 ghost use Rattle.lines.specs.Overlong.{AreBytes};
 ghost use Rattle.device.specs.Follows.{Ended};
 ghost use Rattle.serving.specs.Herd.{held_by, herd_code};
@@ -77,6 +77,7 @@ impl Herd {
         ensures words { self.new.words.kept ≡ self.old.words.kept }
         ensures mind { self.new.mind ≡ self.old.mind }
         ensures reply { self.new.reply ≡ self.old.reply }
+        ensures left { self.new.words.left ≡ (if self.old.fails then self.old.words.left else 18446744073709551615) }
     {
         if !self.fails {
             self.words.set_left(ENDLESS);

@@ -1,4 +1,6 @@
 // Numbers in words: decimal digits and nothing else.
+ghost use Rattle.std.specs.Prelude.{◌≤◌, IfOk, IfSome, vec_len};
+
 use agents::text::decimal;
 use jobs::ids::{MachineId, TaskId};
 use std::alloc::{AllocError, Global};
@@ -27,13 +29,15 @@ pub fn task(word: &str) -> Option<TaskId> {
 }
 
 // At most 255 tags, parted by commas, as bytes: four each, high byte first.
-pub fn tags(heap: Global, word: &str) -> Result<Option<Vec<u8>>, AllocError> {
+pub fn tags(heap: Global, word: &str) -> Result<Option<Vec<u8>>, AllocError>
+    ensures { IfOk result (λ tags. IfSome tags (λ bytes. vec_len bytes ≤ 1020)) }
+{
     let mut bytes = Vec::new(heap);
     for tag in word.split(',') {
         let Some(tag) = middle(tag) else {
             return Ok(None);
         };
-        if bytes.len() >= 4 * 255 {
+        if bytes.len() > 4 * 254 {
             return Ok(None);
         }
         bytes.extend_from_slice(&tag.to_be_bytes())?;
