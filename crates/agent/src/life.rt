@@ -90,8 +90,8 @@ fn keep<R: Replacing>(file: &mut R, life: Life) -> io::Result<Life>
 // A life that was never used, once it is on the disk.
 pub fn rise(rt: &HostRuntime, dir: &str) -> Result<Life, Trouble> {
     let path = format!(in rt.alloc(); "{dir}/life")?;
-    let aside = format!(in rt.alloc(); "{dir}/life.new")?;
     let life = next(rt, path.as_str())?;
+    let aside = format!(in rt.alloc(); "{dir}/life.new").map_err(|e| Trouble::Keep(e.into()))?;
     let paths = Paths {
         file: path.as_str(),
         dir,

@@ -16,7 +16,9 @@ use thiserror::Error;
 fn push_byte(text: &mut Vec<u8>, byte: u8) -> Result<(), AllocError>
     ensures { OnOk result (text.new.items ≡ text.old.items ++ (digit_char (byte / 16) ∷ digit_char (byte % 16) ∷ [])) }
 {
-    text.extend_from_slice(&[digit(byte / 16), digit(byte % 16)])
+    text.push(digit(byte / 16))?;
+    text.push(digit(byte % 16))?;
+    Ok(())
 }
 
 // Puts bytes in hexadecimal behind a text.

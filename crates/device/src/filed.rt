@@ -1,5 +1,5 @@
 // The file `kept` as kept memory: each store goes to the file at once, and all words stand in memory that is lent.
-ghost use Rattle.std.specs.Prelude.{◌≡◌, ◌<◌, slice_index};
+ghost use Rattle.std.specs.Prelude.{◌≡◌, ◌<◌, false, slice_index};
 
 use crate::bytes::encode;
 use crate::kept::{Dark, Kept, WORDS};
@@ -17,6 +17,8 @@ pub struct Filed<'a> {
 
 impl Kept for Filed<'_> {
     ghost word = { λ s a. slice_index s.mirror.now a };
+
+    ghost sure = { λ _. false };
 
     fn load(&self, at: usize) -> u64 {
         self.mirror.get(at).copied().unwrap_or(0)

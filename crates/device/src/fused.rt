@@ -1,5 +1,5 @@
 // Kept words where the power fails after so many stores.
-ghost use Rattle.std.specs.Prelude.{◌≡◌, ◌+◌, ◌<◌, MatchResult};
+ghost use Rattle.std.specs.Prelude.{◌≡◌, ◌+◌, ◌<◌, ◌&&◌, ◌==◌, not, true, MatchResult};
 ghost use Rattle.model.specs.Memory.{stored};
 
 use crate::kept::{Dark, Kept};
@@ -12,6 +12,8 @@ pub struct Fused<K> {
 
 impl<K: Kept> Kept for Fused<K> {
     ghost word = { λ s. K.word s.kept };
+
+    ghost sure = { λ s. K.sure s.kept && not (s.left == 0) };
 
     fn load(&self, at: usize) -> u64 {
         self.kept.load(at)
@@ -47,7 +49,7 @@ impl<K: Kept> Fused<K> {
     // One store less; where none is left nothing is stored any more.
     fn put(&mut self, at: usize, w: u64) -> Result<(), Dark>
         requires { at < 262144 }
-        ensures { MatchResult result (λ _. (self.old.left ≡ self.new.left + 1) × (K.word self.new.kept ≡ stored at w (K.word self.old.kept))) (λ _. K.word self.new.kept ≡ K.word self.old.kept) }
+        ensures { MatchResult result (λ _. (self.old.left ≡ self.new.left + 1) × (K.word self.new.kept ≡ stored at w (K.word self.old.kept))) (λ _. (K.sure self.old.kept ≡ true → (self.old.left ≡ 0) × (self.new.left ≡ 0)) × (K.word self.new.kept ≡ K.word self.old.kept)) }
     {
         if self.left == 0 {
             return Err(Dark);

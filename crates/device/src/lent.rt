@@ -1,5 +1,5 @@
 // Kept words in memory that is lent.
-ghost use Rattle.std.specs.Prelude.{◌≡◌, length, slice_index};
+ghost use Rattle.std.specs.Prelude.{◌≡◌, true, length, slice_index};
 
 use crate::kept::{Dark, Kept, WORDS};
 
@@ -11,6 +11,8 @@ pub struct Lent<'a> {
 
 impl Kept for Lent<'_> {
     ghost word = { λ s a. slice_index s.words.now a };
+
+    ghost sure = { λ _. true };
 
     fn load(&self, at: usize) -> u64 {
         self.words[at]

@@ -10,7 +10,7 @@ pub enum Trouble {
     #[error("too many arguments: say `herd`, or `herd DIR` with the directory of the file `kept`")]
     Usage,
     #[error("no memory to begin with")]
-    Memory(#[from(alloc)] AllocError),
+    Memory,
     #[error("the arguments cannot be read: {0}")]
     Arguments(io::Error),
     #[error("{0}")]
@@ -23,6 +23,12 @@ pub enum Trouble {
     Dark,
     #[error("lines cannot be read or answered any more: {0}")]
     Lines(io::Error),
+}
+
+impl From<AllocError> for Trouble {
+    fn from(_e: AllocError) -> Trouble {
+        Trouble::Memory
+    }
 }
 
 impl From<kept::Dark> for Trouble {

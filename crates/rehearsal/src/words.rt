@@ -1,5 +1,5 @@
 // Kept words of its own.
-ghost use Rattle.std.specs.Prelude.{◌≡◌, ◌<◌, slice_index, vec_len};
+ghost use Rattle.std.specs.Prelude.{◌≡◌, ◌<◌, true, slice_index, vec_len};
 
 use device::kept::{Dark, Kept, WORDS};
 use std::alloc::{AllocError, Global};
@@ -22,6 +22,8 @@ impl Words {
 
 impl Kept for Words {
     ghost word = { λ s. slice_index s.words.items };
+
+    ghost sure = { λ _. true };
 
     fn load(&self, at: usize) -> u64 {
         self.words[at]

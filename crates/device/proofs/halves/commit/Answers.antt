@@ -41,5 +41,5 @@ returns g c =
     (leads_part (λ _. store 0 c.locate-at.result.turned (done tt))
     (turns h m c.load.result c.load.ensures c.locate-at.result.held c.locate-at.result.spare c.locate-at.result.turned c.locate-at.ensures.holds c.locate-at.ensures.other c.locate-at.ensures.turns c.differ.result c.differ.ensures c.if-differ-le1.false)
     c.in_ok-copy.ensures)
-    c.store.ensures in
+    c.store.ensures.stored in
     record { follows = f; whole = whole h m n c.store.result c.requires (λ i. omega (arith, c.type_inv.home i)) f; budget = budget h m }
