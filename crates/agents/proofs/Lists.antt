@@ -1,8 +1,20 @@
--- Lists that loops make.
+-- Lists that loops look through, or make.
 -- Assumes nothing.
-use Rattle.std.proofs.Common.{◌≡◌, ℕ, ◌+◌, ◌<◌, ◌≤◌, List, [], ◌∷◌, ◌++◌, map, length, get_or, take, sym, refl, ap, ◌∙◌, append_assoc, append-nil}
+use Rattle.std.proofs.Common.{◌≡◌, ℕ, ◌+◌, ◌<◌, ◌≤◌, List, [], ◌∷◌, ◌++◌, map, length, get_or, take, drop, sym, refl, ap, ◌∙◌, append_assoc, append-nil}
 use Rattle.std.specs.List.{flat_map}
-use Rattle.std.proofs.lemmas.List.{map_push, take_more, take_all}
+use Rattle.std.proofs.lemmas.List.{map_push, drop_all, take_more, take_all}
+
+-- A LOOP THAT LOOKS: what is left decides
+
+module _ {X Y B : Type 0} (f : X → Y) (g : List Y → B) (xs : List X) (i : ℕ) (inv : g (map f (drop i xs)) ≡ g (map f xs)) where
+  pub look_more : (x : X) → drop i xs ≡ x ∷ drop (i + 1) xs → g (f x ∷ map f (drop (i + 1) xs)) ≡ g (map f (drop (i + 1) xs)) → g (map f (drop (i + 1) xs)) ≡ g (map f xs)
+  look_more x at e = sym e ∙ ap (λ ys. g (map f ys)) (sym at) ∙ inv
+
+  pub look_here : (x : X) (v : B) → drop i xs ≡ x ∷ drop (i + 1) xs → g (f x ∷ map f (drop (i + 1) xs)) ≡ v → g (map f xs) ≡ v
+  look_here x v at e = sym inv ∙ ap (λ ys. g (map f ys)) at ∙ e
+
+  pub look_none : length xs ≤ i → g (map f xs) ≡ g []
+  look_none l = sym inv ∙ ap (λ ys. g (map f ys)) (drop_all i xs l)
 
 -- A LOOP THAT GATHERS
 

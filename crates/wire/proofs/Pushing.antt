@@ -1,9 +1,10 @@
 -- Bytes pushed one part behind the other.
 -- Assumes nothing.
-use Rattle.std.proofs.Common.{◌≡◌, refl, ℕ, suc, ◌/◌, ◌<◌, Bool, true, false, eqb, List, [], ◌∷◌, ◌++◌, length, get_or, take, drop, sym, ap, ◌∙◌, subst, append_assoc, append-nil, arith, length-append}
+use Rattle.std.proofs.Common.{◌≡◌, refl, ℕ, zero, suc, ◌+◌, ◌-◌, ◌/◌, ◌%◌, ◌<◌, ◌≤◌, Bool, true, false, eqb, Ok, Err, Result, OnOk, is_ok, cond, List, [], ◌∷◌, ◌++◌, length, get_or, take, drop, sym, ap, ◌∙◌, subst, append_assoc, append-nil, arith, length-append}
 use mir.Val.{bool_byte}
 use Rattle.std.specs.Int.Digits.{AllBelowBase}
-use Rattle.std.proofs.lemmas.List.{take_at, drop_at, take-append-le, get_or_append_left}
+use Rattle.std.specs.declared.alloc.AllocError.{AllocError}
+use Rattle.std.proofs.lemmas.List.{take_at, take_all, drop_at, drop_all, take-append-le, drop-append-le, get_or_append_left}
 use Rattle.model.specs.Wire.{Bytes, bytes_of, value_of, flag_of, seens_in, seen_bytes}
 use Rattle.model.specs.Lists.{every}
 use Rattle.model.specs.State.{Name, Spec}
@@ -11,7 +12,7 @@ use Rattle.model.specs.Calls.{Seen, SetJob, AddMachine, Report, small}
 use Rattle.std.proofs.lemmas.Bool.{lt-ltb}
 use Rattle.wire.specs.Fits.{spec_numbers, long_id, numbers_fit}
 use Rattle.calls.specs.Meaning.{seens_of}
-use Rattle.octets.proofs.Numbers.{length_take_under, bytes_of_value}
+use Rattle.octets.proofs.Numbers.{length_bytes_of, length_take_under, bytes_of_value}
 use Rattle.std.proofs.ByRecursion.{All-take}
 use Rattle.wire.proofs.Again.{below_drop}
 
@@ -67,3 +68,27 @@ tasks_left piece rest left l u r = subst (AllBelowBase 256) (ap (drop 9) r ∙ d
 pub tasks_done : (acc rest all : Bytes) → length rest < 9 → acc ++ seen_bytes (seens_of rest) ≡ all → acc ≡ all
 unfolding seen_bytes seens_in
 tasks_done acc rest all l inv = let z : length rest / 9 ≡ 0 = omega (arith, l) in sym (append-nil acc) ∙ ap (λ (n : ℕ). acc ++ seen_bytes (seens_in n rest)) (sym z) ∙ inv
+
+-- A NUMBER'S LOW BYTES
+
+-- the bytes behind the first k are those of the rest
+low_bytes : (k w n : ℕ) → drop k (bytes_of (k + w) n) ≡ bytes_of w n
+unfolding bytes_of
+low_bytes k zero n = drop_all k (bytes_of (k + zero) n) (let l = length_bytes_of (k + zero) n in omega arith)
+low_bytes k (suc w) n =
+    let e : k + suc w ≡ suc (k + w) = omega arith in let l = length_bytes_of (k + w) (n / 256) in
+    rw e (drop-append-le k (bytes_of (k + w) (n / 256)) (n % 256 ∷ []) (omega arith) ∙ ap (λ (xs : Bytes). xs ++ (n % 256 ∷ [])) (low_bytes k w (n / 256)))
+
+-- of eight bytes the last w are pushed, if there was memory for them
+pub number_pushed : (r : Result (Unit {0}) AllocError) (w n x d m : ℕ) (old new all : Bytes) → w ≤ 8 → d ≡ 8 - w → w ≤ m → x ≡ n → all ≡ bytes_of 8 x → new ≡ cond (is_ok r) (old ++ take m (drop d all)) old → OnOk r (new ≡ old ++ bytes_of w n)
+number_pushed (Ok u) w n x d m old new all l e f s a q = q ∙ ap (λ (xs : Bytes). old ++ xs) (take_all m (drop d all) long ∙ same)
+  where
+    k : 8 - w + w ≡ 8
+    k = omega arith
+
+    same : drop d all ≡ bytes_of w n
+    same = (λ i. drop (e i) (a i)) ∙ ap (λ (j : ℕ). drop (8 - w) (bytes_of j x)) (sym k) ∙ low_bytes (8 - w) w x ∙ ap (bytes_of w) s
+
+    long : length (drop d all) ≤ m
+    long = let p = ap length same in let b = length_bytes_of w n in omega arith
+number_pushed (Err z) w n x d m old new all l e f s a q = tt

@@ -3,7 +3,6 @@ ghost use Rattle.std.specs.Prelude.{◌≡◌, ◌/◌, ◌≤◌, ◌++◌, len
 ghost use Rattle.model.specs.Wire.{bytes_of, name_bytes};
 ghost use Rattle.wire.specs.Pushed.{PushesTags};
 
-use lines::write::put_number;
 use octets::field::Number;
 use std::alloc::AllocError;
 
@@ -12,9 +11,8 @@ pub fn push_number<T: Number>(bytes: &mut Vec<u8>, n: T) -> Result<(), AllocErro
     ensures ok { OnOk result (bytes.new.items ≡ bytes.old.items ++ bytes_of T.WIDTH (T.num n)) }
     ensures err { OnErr result (bytes.new.items ≡ bytes.old.items) }
 {
-    let mut room = [0; 8];
-    let end = put_number(&mut room, 0, n);
-    bytes.extend_from_slice(&room[..end])
+    let all = n.widen().to_be_bytes();
+    bytes.extend_from_slice(&all[8 - T::WIDTH..])
 }
 
 // A name behind its length.
